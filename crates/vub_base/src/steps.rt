@@ -1,0 +1,43 @@
+use std::marker::Model;
+use std::sync::ledger::{Blank, Book, Ledger, Share};
+
+/// How many steps were taken, for any ledger `K`. It takes no bytes at run time, and only [`Steps::tick`]
+/// changes it, so that a contract can bound the work of a call. What a step is, the call that is lent the
+/// counter says.
+#[derive(Drop)]
+pub struct Steps<K: Ledger> {
+    book: Book<K>,
+    share: Share<K>,
+}
+
+impl<K: Ledger> Model for Steps<K> {
+    ghost use Rattle.std.specs.Prelude.{ℕ, ◌<◌};
+
+    ghost Value = { ℕ };
+
+    ghost view = { λ s. s.book.total };
+
+    ghost invariant = { λ s. 0 < s.share.parts };
+}
+
+impl<K: Ledger> Steps<K> {
+    ghost use Rattle.std.specs.Prelude.{◌≡◌, ◌+◌, ◌<◌};
+
+    /// A count from 0 on a blank ledger.
+    pub fn new(blank: Blank) -> Self
+        requires name { blank.name ≡ K.name }
+        requires parts { blank.parts ≡ K.parts }
+        requires some { 0 < K.parts }
+        ensures { result ≡ 0 }
+    {
+        let (book, share) = blank.open();
+        Steps { book, share }
+    }
+
+    /// One more step.
+    pub fn tick(&mut self)
+        ensures { self.new ≡ self.old + 1 }
+    {
+        self.book.add(&mut self.share, 1);
+    }
+}
