@@ -1,0 +1,10 @@
+pub mod Chunks
+pub mod Contents
+pub mod Finds
+pub mod Frames
+pub mod Mapped
+pub mod MarkLaws
+pub mod Pages
+pub mod Ranges
+pub mod Tables
+pub mod Writes

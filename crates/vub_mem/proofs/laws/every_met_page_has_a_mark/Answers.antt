@@ -1,0 +1,5 @@
+use Rattle.vub_mem.proofs.laws.every_met_page_has_a_mark.Goals as goal
+use Rattle.vub_mem.proofs.Pages.{met_page}
+
+pub returns : goal.returns
+returns c = met_page

@@ -1,0 +1,15 @@
+pub mod Answers
+pub mod Bits
+pub mod Faults
+pub mod Found
+pub mod Laws
+pub mod Logs
+pub mod Mappings
+pub mod Marks
+pub mod Memory
+pub mod Place
+pub mod PlaceAt
+pub mod Sound
+pub mod Table
+pub mod Track
+pub mod View
