@@ -1,0 +1,40 @@
+-- The plain log: its words of 32 pages, and how often each was harvested.
+use Rattle.std.specs.Prelude.{◌≡◌, ℕ, ◌+◌, ◌*◌, ◌/◌, ◌%◌, ◌^◌, List, replicate, slice_index, slice_set, bit_or}
+use Rattle.std.specs.Int.{bit_at}
+
+pub record Plain : Type 0 where
+  pub len : ℕ
+  pub words : List ℕ
+  pub counts : List ℕ
+
+-- how many words of four bytes a log of this many bytes has
+abbrev pub word_count : ℕ → ℕ
+word_count len = (len + 3) / 4
+
+-- the log in which no page is marked and no word was harvested
+abbrev pub fresh : ℕ → Plain
+fresh len = record { len = len; words = replicate (word_count len) 0; counts = replicate (word_count len) 0 }
+
+-- the bits of a word
+abbrev pub word_of : Plain → ℕ → ℕ
+word_of log word = slice_index log.words word
+
+-- how often a word was harvested
+abbrev pub harvest_count : Plain → ℕ → ℕ
+harvest_count log word = slice_index log.counts word
+
+-- the bit of a page: 1 where it is marked
+abbrev pub page_bit : Plain → ℕ → ℕ
+page_bit log page = bit_at (word_of log (page / 32)) (page % 32)
+
+-- the log after a mark of a page
+abbrev pub marked : Plain → ℕ → Plain
+marked log page = record log { words = slice_set log.words (page / 32) (bit_or (word_of log (page / 32)) (2 ^ (page % 32))) }
+
+-- a byte of the log: words are little-endian
+abbrev pub byte_of : Plain → ℕ → ℕ
+byte_of log byte = word_of log (byte / 4) / 2 ^ (8 * (byte % 4)) % 256
+
+-- the log after a harvest of a word
+abbrev pub harvested : Plain → ℕ → Plain
+harvested log word = record log { words = slice_set log.words word 0; counts = slice_set log.counts word (harvest_count log word + 1) }

@@ -1,0 +1,95 @@
+ghost use Rattle.std.specs.Prelude.{◌≡◌, ◌↔◌, ◌⊎◌, ◌^◌, ◌≤◌, IfOk, IfErr};
+ghost use Rattle.vub_log.specs.Plain.{fresh, marked, byte_of, harvested, harvest_count, word_of};
+
+use std::alloc::Global;
+use std::marker::Model;
+use vub_mem::{DirtyLog, HarvestLog, LogError};
+
+/// A log of dirty pages in plain memory, which one owner marks, reads and harvests. It tells its words and how often
+/// each was harvested.
+#[derive(Drop)]
+pub struct PlainLog {
+    len: u64,
+    words: Vec<u32>,
+    counts: Vec<u32>,
+}
+
+impl Model for PlainLog {
+    ghost use Rattle.vub_log.specs.Plain.{Plain};
+
+    ghost Value = { Plain };
+
+    ghost use Rattle.vub_log.specs.View.{plain_view, IsPlain};
+
+    ghost view = { plain_view };
+
+    ghost invariant = { IsPlain };
+}
+
+impl PlainLog {
+    /// A log of `len` bytes, in which no page is marked and no word was harvested.
+    ///
+    /// # Errors
+    /// `EmptyLog` exactly where `len` is 0. `OutOfMemory` from 2^61 bytes on, and for want of memory.
+    pub fn new(alloc: Global, len: u64) -> Result<PlainLog, LogError>
+        ensures ok { IfOk result (λ log. log ≡ fresh len) }
+        ensures empty { (result ≡ Err LogError.EmptyLog) ↔ (len ≡ 0) }
+        ensures large { 2 ^ 61 ≤ len → result ≡ Err LogError.OutOfMemory }
+        ensures only { IfErr result (λ e. (e ≡ LogError.EmptyLog) ⊎ (e ≡ LogError.OutOfMemory)) }
+    {
+        if len == 0 {
+            return Err(LogError::EmptyLog);
+        }
+        if len >= 1 << 61 {
+            return Err(LogError::OutOfMemory);
+        }
+        let count = ((len + 3) / 4) as usize;
+        let Ok(words) = vec![in alloc; 0u32; count] else {
+            return Err(LogError::OutOfMemory);
+        };
+        let Ok(counts) = vec![in alloc; 0u32; count] else {
+            return Err(LogError::OutOfMemory);
+        };
+        Ok(PlainLog { len, words, counts })
+    }
+}
+
+impl DirtyLog for PlainLog {
+    ghost byte_len = { λ log. log.len };
+
+    ghost marks = { λ old page new. new ≡ marked old page };
+
+    ghost loads = { λ old byte bits new. (bits ≡ byte_of old byte) × (new ≡ old) };
+
+    fn len(&self) -> u64 {
+        self.len
+    }
+
+    fn mark(&mut self, page: u64) {
+        let word = (page / 32) as usize;
+        self.words[word] |= 1 << (page % 32) as u32;
+    }
+
+    fn load(&mut self, byte: u64) -> u8 {
+        let word = self.words[(byte / 4) as usize];
+        ((word >> (8 * (byte % 4)) as u32) % 256) as u8
+    }
+}
+
+impl HarvestLog for PlainLog {
+    ghost harvests = { λ old word bits new. (bits ≡ word_of old word) × (new ≡ harvested old word) };
+
+    ghost spent = { λ log word. harvest_count log word ≡ 4294967295 };
+
+    fn harvest(&mut self, word: u64) -> Result<u32, LogError> {
+        let place = word as usize;
+        let count = self.counts[place];
+        if count == u32::MAX {
+            return Err(LogError::GenerationsSpent);
+        }
+        let bits = self.words[place];
+        self.words[place] = 0;
+        self.counts[place] = count + 1;
+        Ok(bits)
+    }
+}
