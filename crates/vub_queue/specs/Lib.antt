@@ -1,0 +1,12 @@
+pub mod Chain
+pub mod EntryNumber
+pub mod Function
+pub mod Laws
+pub mod Layout
+pub mod Notification
+pub mod Put
+pub mod Ring
+pub mod Settings
+pub mod Take
+pub mod View
+pub mod Walk

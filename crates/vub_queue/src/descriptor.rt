@@ -1,0 +1,12 @@
+/// One descriptor of the table (virtio 1.2, 2.7.5).
+#[derive(Clone, Copy)]
+pub struct Descriptor {
+    /// Where its segment begins, a guest address.
+    pub addr: u64,
+    /// How many bytes the segment has.
+    pub len: u32,
+    /// NEXT 1, WRITE 2, INDIRECT 4.
+    pub flags: u16,
+    /// The number of the next descriptor, where NEXT is set.
+    pub next: u16,
+}

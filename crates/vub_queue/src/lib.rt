@@ -1,0 +1,41 @@
+//! The device's side of a split virtqueue (virtio 1.2, section 2.7): its state, and the calls that take the next entry
+//! from guest memory and put a reply back.
+#![tactic(auto)]
+
+mod addresses;
+mod chain;
+mod damage;
+mod descriptor;
+mod error;
+mod head;
+mod indexes;
+mod laws;
+mod notification;
+mod publishing;
+mod putting;
+mod queue;
+mod segment;
+mod taking;
+mod took;
+mod using;
+mod walk;
+
+pub use addresses::Addresses;
+pub use chain::Chain;
+pub use damage::Damage;
+pub use error::{QueueError, RingPart};
+pub use laws::{
+    chain_fails_no_test, empty_where_none_is_left, entry_stands_in_its_slot, head_has_one_chain,
+    put_changes_only_its_places, take_changes_nothing, take_changes_only_avail_event,
+    take_has_an_answer, take_has_one_answer,
+};
+pub use putting::{PutFault, put};
+pub use queue::Queue;
+pub use segment::{Segment, Segments};
+pub use taking::take;
+pub use took::Took;
+
+#[cfg(test)]
+mod echo;
+#[cfg(test)]
+mod tests;
