@@ -1,0 +1,15 @@
+-- A call that is to fail counts its fault.
+use Rattle.std.proofs.Common.{ℕ, ◌+◌, ◌-◌, ◌^◌, ◌≡◌, ◌<◌, min, Bool, true, false, if◌then◌else◌, List, [], Err, sym, ◌∙◌, arith}
+use Rattle.vub_event.specs.declared.error.HostError.TheVariants.{Failed}
+use Rattle.vub_event.specs.Faults.{CountsFaults}
+
+pub struck : {T : Type 0} (before now : ℕ) (calls still : List ℕ) (strikes : Bool) → strikes ≡ true → (calls ≡ [] → strikes ≡ false)
+    → still ≡ calls → now ≡ (if strikes then min (before + 1) (2 ^ 64 - 1) else before) → before < 2 ^ 64
+    → CountsFaults {T = T} before now (calls ≡ []) (still ≡ []) (Err Failed)
+struck before now calls still strikes is sound same count fits =
+    let rose : now ≡ min (before + 1) (2 ^ 64 - 1) = rw is at count in
+    record {
+      cause = record { later = omega arith; failed = λ _. omega arith };
+      still = λ none. same ∙ none;
+      sound = λ none _. (let both : true ≡ false = sym is ∙ sound none in cc);
+    }

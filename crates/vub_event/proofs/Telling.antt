@@ -1,0 +1,9 @@
+-- Two calls one after the other, of a host that tells its table.
+use Rattle.std.proofs.Common.{Option, Some, None}
+use Rattle.vub_base.specs.Told.{Told}
+
+pub told-then : {A : Type 0} (a b c : Option A) (P Q R : A → A → Type 0) → ((x y z : A) → P x y → Q y z → R x z) → Told a b P → Told b c Q → Told a c R
+told-then None b c P Q R both p q = tt
+told-then (Some x) None c P Q R both p q = absurd p
+told-then (Some x) (Some y) None P Q R both p q = absurd q
+told-then (Some x) (Some y) (Some z) P Q R both p q = both x y z p q

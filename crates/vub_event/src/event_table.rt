@@ -1,0 +1,377 @@
+ghost use Rattle.std.specs.Prelude.{◌≡◌, ◌∷◌, [], is_some};
+ghost use Rattle.vub_event.specs.HostTable.{empty_table, event_at, has_event, has_list, member_at, members_at, is_listed, with_event, ready_members, IsLeastOf};
+ghost use Rattle.vub_event.specs.HostCalls.{has_both, is_claimed, consume_after, CreateEventCall, CreateListCall, SignalCall, ConsumeCall, AddCall, ModifyCall, DeleteCall, ListenCall, UnlistenCall, ConsumeAsCall, ReadyCall, FirstReadyCall, ReadyManyCall, ClaimCall, release_after, hang_up_after, close_after};
+ghost use Rattle.vub_event.specs.Errors.{RefusesBy};
+
+use crate::error::HostError;
+use crate::event::Event;
+use crate::event_set::EventSet;
+use crate::member::Member;
+use crate::members::Members;
+use crate::ready::Ready;
+use std::alloc::Global;
+use std::marker::Model;
+
+/// The objects and the interest lists of a host. A contract sees the host table.
+#[derive(Debug, Drop)]
+pub struct EventTable {
+    objects: Vec<Option<Event>>,
+    lists: Vec<Members>,
+}
+
+impl Model for EventTable {
+    ghost use Rattle.vub_event.specs.HostTable.{HostTable};
+
+    ghost Value = { HostTable };
+
+    ghost view = { λ t. record { objects = t.objects.items; lists = t.lists.items } };
+}
+
+/// How many objects, or lists, are ever made.
+const MOST: usize = 4_294_967_295;
+
+/// The flags of a new event object, as eventfd(2) has them: SEMAPHORE, NONBLOCK and CLOEXEC.
+const FLAGS: u32 = 0x8_0801;
+
+impl EventTable {
+    /// No object and no list. Takes no memory.
+    pub fn new(alloc: Global) -> EventTable
+        ensures { result ≡ empty_table }
+    {
+        EventTable {
+            objects: Vec::new(alloc),
+            lists: Vec::new(alloc),
+        }
+    }
+
+    /// The object of this number.
+    pub fn event(&self, object: u32) -> Option<Event>
+        ensures { result ≡ event_at self.now object }
+    {
+        match self.objects.get(object as usize) {
+            Some(event) => *event,
+            None => None,
+        }
+    }
+
+    /// The members of this list.
+    pub fn members(&self, list: u32) -> &[Member]
+        ensures { result.now ≡ members_at self.now list }
+    {
+        match self.lists.get(list as usize) {
+            Some(members) => members.as_slice(),
+            None => &[],
+        }
+    }
+
+    /// Puts an object in the place of the one of this number.
+    fn put(&mut self, object: u32, event: Option<Event>)
+        ensures { self.new ≡ with_event self.old object event }
+    {
+        if (object as usize) < self.objects.len() {
+            self.objects[object as usize] = event;
+        }
+    }
+
+    /// Whether there is a list of this number.
+    fn has_list(&self, list: u32) -> bool
+        ensures { result ≡ has_list self.now list }
+    {
+        (list as usize) < self.lists.len()
+    }
+
+    /// Whether both this list and this object are there.
+    fn has_both(&self, list: u32, object: u32) -> bool
+        ensures { result ≡ has_both self.now list object }
+    {
+        self.has_list(list) && self.event(object).is_some()
+    }
+
+    /// The member of this list for this object.
+    fn member(&self, list: u32, object: u32) -> Option<Member>
+        ensures { result ≡ member_at self.now list object }
+    {
+        match self.lists.get(list as usize) {
+            Some(members) => members.get(object),
+            None => None,
+        }
+    }
+
+    /// Whether some list has a member for this object.
+    fn is_listed(&self, object: u32) -> bool
+        ensures { result ≡ is_listed self.now object }
+    {
+        self.lists
+            .iter()
+            .any(|members| members.get(object).is_some())
+    }
+
+    /// Whether a queue claims this object.
+    fn is_claimed(&self, object: u32) -> bool
+        ensures { result ≡ is_claimed (event_at self.now object) }
+    {
+        match self.event(object) {
+            Some(event) => event.claim.is_some(),
+            None => false,
+        }
+    }
+
+    /// Reads this counter, as far as there is anything to read.
+    #[tactic(auto, unfolding(crate::specs::HostCalls::consume_after))]
+    fn read(&mut self, object: u32)
+        ensures { self.new ≡ consume_after self.old object }
+    {
+        if let Some(event) = self.event(object) {
+            self.put(object, Some(event.read()));
+        }
+    }
+
+    /// As [`Host::create_event`](crate::Host::create_event).
+    #[tactic(auto, unfolding(crate::specs::HostCalls::create_event_after))]
+    pub fn create_event(&mut self, flags: u32) -> Result<u32, HostError>
+        ensures refusals { RefusesBy result (HostError.EINVAL ∷ HostError.OutOfMemory ∷ []) }
+        ensures table { CreateEventCall flags result self.old self.new }
+    {
+        if flags | FLAGS != FLAGS {
+            return Err(HostError::EINVAL);
+        }
+        let number = self.objects.len();
+        if number >= MOST {
+            return Err(HostError::OutOfMemory);
+        }
+        self.objects.push(Some(Event::new(flags)))?;
+        Ok(number as u32)
+    }
+
+    /// As [`Host::create_list`](crate::Host::create_list).
+    #[tactic(auto, unfolding(crate::specs::HostCalls::create_list_after))]
+    pub fn create_list(&mut self, alloc: Global) -> Result<u32, HostError>
+        ensures refusals { RefusesBy result (HostError.OutOfMemory ∷ []) }
+        ensures table { CreateListCall result self.old self.new }
+    {
+        let number = self.lists.len();
+        if number >= MOST {
+            return Err(HostError::OutOfMemory);
+        }
+        self.lists.push(Members::new(alloc))?;
+        Ok(number as u32)
+    }
+
+    /// As [`Host::signal`](crate::Host::signal).
+    #[tactic(auto, unfolding(crate::specs::HostCalls::signal_refusal, crate::specs::HostCalls::signal_after))]
+    pub fn signal(&mut self, object: u32, value: u64) -> Result<(), HostError>
+        ensures refusals { RefusesBy result (HostError.WouldBlock ∷ HostError.EINVAL ∷ HostError.EBADF ∷ []) }
+        ensures table { SignalCall object value result self.old self.new }
+    {
+        let Some(event) = self.event(object) else {
+            return Err(HostError::EBADF);
+        };
+        if value == u64::MAX {
+            return Err(HostError::EINVAL);
+        }
+        let Some(count) = event.count.checked_add(value) else {
+            return Err(HostError::WouldBlock);
+        };
+        if count > Event::GREATEST {
+            return Err(HostError::WouldBlock);
+        }
+        self.put(object, Some(Event { count, ..event }));
+        Ok(())
+    }
+
+    /// As [`Host::consume`](crate::Host::consume).
+    #[tactic(auto, unfolding(crate::specs::HostCalls::consume_refusal, crate::specs::HostCalls::consume_value, crate::specs::HostCalls::consume_after))]
+    pub fn consume(&mut self, object: u32) -> Result<u64, HostError>
+        ensures refusals { RefusesBy result (HostError.WouldBlock ∷ HostError.EBADF ∷ []) }
+        ensures table { ConsumeCall object result self.old self.new }
+    {
+        let Some(event) = self.event(object) else {
+            return Err(HostError::EBADF);
+        };
+        if event.count == 0 {
+            return Err(HostError::WouldBlock);
+        }
+        self.put(object, Some(event.read()));
+        Ok(event.value())
+    }
+
+    /// As [`Host::add`](crate::Host::add).
+    #[tactic(auto, unfolding(crate::specs::HostCalls::add_refusal, crate::specs::HostCalls::add_after))]
+    pub fn add(&mut self, list: u32, member: Member) -> Result<(), HostError>
+        ensures refusals { RefusesBy result (HostError.EINVAL ∷ HostError.EEXIST ∷ HostError.EBADF ∷ HostError.OutOfMemory ∷ []) }
+        ensures table { AddCall list member result self.old self.new }
+    {
+        if !self.has_both(list, member.object) {
+            return Err(HostError::EBADF);
+        }
+        if member.set.is_refused() {
+            return Err(HostError::EINVAL);
+        }
+        if !self.lists[list as usize].add(member)? {
+            return Err(HostError::EEXIST);
+        }
+        Ok(())
+    }
+
+    /// As [`Host::modify`](crate::Host::modify).
+    #[tactic(auto, unfolding(crate::specs::HostCalls::modify_refusal, crate::specs::HostCalls::modify_after))]
+    pub fn modify(&mut self, list: u32, member: Member) -> Result<(), HostError>
+        ensures refusals { RefusesBy result (HostError.EINVAL ∷ HostError.ENOENT ∷ HostError.EBADF ∷ []) }
+        ensures table { ModifyCall list member result self.old self.new }
+    {
+        if !self.has_both(list, member.object) {
+            return Err(HostError::EBADF);
+        }
+        if member.set.is_refused() {
+            return Err(HostError::EINVAL);
+        }
+        if !self.lists[list as usize].change(member) {
+            return Err(HostError::ENOENT);
+        }
+        Ok(())
+    }
+
+    /// As [`Host::delete`](crate::Host::delete).
+    #[tactic(auto, unfolding(crate::specs::HostCalls::delete_refusal, crate::specs::HostCalls::delete_after))]
+    pub fn delete(&mut self, list: u32, object: u32) -> Result<(), HostError>
+        ensures refusals { RefusesBy result (HostError.ENOENT ∷ HostError.EBADF ∷ []) }
+        ensures table { DeleteCall list object result self.old self.new }
+    {
+        if !self.has_both(list, object) {
+            return Err(HostError::EBADF);
+        }
+        if !self.lists[list as usize].remove(object) {
+            return Err(HostError::ENOENT);
+        }
+        Ok(())
+    }
+
+    /// As [`Host::listen`](crate::Host::listen).
+    #[tactic(auto, unfolding(crate::specs::HostCalls::listen_refusal, crate::specs::HostCalls::add_after))]
+    pub fn listen(&mut self, list: u32, object: u32, token: u64) -> Result<(), HostError>
+        ensures refusals { RefusesBy result (HostError.EEXIST ∷ HostError.EBADF ∷ HostError.OutOfMemory ∷ []) }
+        ensures table { ListenCall list object token result self.old self.new }
+    {
+        if !self.has_both(list, object) {
+            return Err(HostError::EBADF);
+        }
+        if self.member(list, object).is_some() || self.is_claimed(object) {
+            return Err(HostError::EEXIST);
+        }
+        let set = EventSet::from_raw(1);
+        let _added = self.lists[list as usize].add(Member { object, set, token })?;
+        Ok(())
+    }
+
+    /// As [`Host::unlisten`](crate::Host::unlisten).
+    #[tactic(auto, unfolding(crate::specs::HostCalls::unlisten_refusal, crate::specs::HostCalls::delete_after))]
+    pub fn unlisten(&mut self, list: u32, object: u32, above: u64) -> Result<(), HostError>
+        ensures refusals { RefusesBy result (HostError.ENOENT ∷ HostError.EBADF ∷ []) }
+        ensures table { UnlistenCall list object above result self.old self.new }
+    {
+        if !self.has_both(list, object) {
+            return Err(HostError::EBADF);
+        }
+        match self.member(list, object) {
+            Some(member) if member.token > above => {
+                let _removed = self.lists[list as usize].remove(object);
+                Ok(())
+            }
+            _ => Err(HostError::ENOENT),
+        }
+    }
+
+    /// As [`Host::consume_as`](crate::Host::consume_as).
+    #[tactic(auto, unfolding(crate::specs::HostCalls::is_listed_as, crate::specs::HostCalls::consume_after))]
+    pub fn consume_as(&mut self, list: u32, object: u32, token: u64) -> Result<bool, HostError>
+        ensures refusals { RefusesBy result (HostError.EBADF ∷ []) }
+        ensures table { ConsumeAsCall list object token result self.old self.new }
+    {
+        if !self.has_list(list) {
+            return Err(HostError::EBADF);
+        }
+        match self.member(list, object) {
+            Some(member) if member.token == token => {
+                self.read(object);
+                Ok(true)
+            }
+            _ => Ok(false),
+        }
+    }
+
+    /// As [`Host::ready`](crate::Host::ready).
+    pub fn ready(&self, list: u32) -> Result<Option<Ready>, HostError>
+        ensures refusals { RefusesBy result (HostError.EBADF ∷ []) }
+        ensures table { FirstReadyCall list result self.now self.now }
+    {
+        match self.lists.get(list as usize) {
+            Some(members) => Ok(members.first_ready(&self.objects)),
+            None => Err(HostError::EBADF),
+        }
+    }
+
+    /// As [`Host::ready_many`](crate::Host::ready_many).
+    pub fn ready_many(&self, alloc: Global, list: u32, most: usize) -> Result<Vec<Ready>, HostError>
+        ensures refusals { RefusesBy result (HostError.EBADF ∷ HostError.OutOfMemory ∷ []) }
+        ensures table { ReadyManyCall list most result self.now self.now }
+    {
+        match self.lists.get(list as usize) {
+            Some(members) => Ok(members.all_ready(alloc, &self.objects, most)?),
+            None => Err(HostError::EBADF),
+        }
+    }
+
+    /// As [`Host::claim`](crate::Host::claim).
+    #[tactic(auto, unfolding(crate::specs::HostCalls::claim_refusal, crate::specs::HostCalls::claim_after))]
+    pub fn claim(&mut self, object: u32, queue: u32) -> Result<(), HostError>
+        ensures refusals { RefusesBy result (HostError.EBADF ∷ HostError.Held ∷ []) }
+        ensures table { ClaimCall object queue result self.old self.new }
+    {
+        let Some(event) = self.event(object) else {
+            return Err(HostError::EBADF);
+        };
+        let is_free = match event.claim {
+            Some(owner) => owner == queue,
+            None => !self.is_listed(object),
+        };
+        if !is_free {
+            return Err(HostError::Held);
+        }
+        let claim = Some(queue);
+        self.put(object, Some(Event { claim, ..event }));
+        Ok(())
+    }
+
+    /// As [`Host::release`](crate::Host::release).
+    #[tactic(auto, unfolding(crate::specs::HostCalls::release_after))]
+    pub fn release(&mut self, object: u32)
+        ensures { self.new ≡ release_after self.old object }
+    {
+        if let Some(event) = self.event(object) {
+            let claim = None;
+            self.put(object, Some(Event { claim, ..event }));
+        }
+    }
+
+    /// As [`Host::hang_up`](crate::Host::hang_up).
+    #[tactic(auto, unfolding(crate::specs::HostCalls::hang_up_after))]
+    pub fn hang_up(&mut self, object: u32)
+        ensures { self.new ≡ hang_up_after self.old object }
+    {
+        if let Some(event) = self.event(object) {
+            let hung_up = true;
+            self.put(object, Some(Event { hung_up, ..event }));
+        }
+    }
+
+    /// As [`Host::close`](crate::Host::close).
+    #[tactic(auto, unfolding(crate::specs::HostCalls::close_after))]
+    pub fn close(&mut self, object: u32)
+        ensures { self.new ≡ close_after self.old object }
+    {
+        self.put(object, None);
+        for members in self.lists.iter_mut() {
+            let _removed = members.remove(object);
+        }
+    }
+}

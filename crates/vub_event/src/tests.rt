@@ -1,0 +1,170 @@
+use crate::{EventSet, Host, HostError, MemHost};
+use bitflags::Flags;
+use std::alloc::Global;
+use std::process::Abort;
+use std::test::Fail;
+
+/// What a call answered, as its number; 0 for Ok.
+fn number_of<T: Drop>(answer: Result<T, HostError>) -> u8 {
+    match answer {
+        Ok(_) => 0,
+        Err(refusal) => refusal.number(),
+    }
+}
+
+#[test]
+fn counter_is_written_and_read(rt: HostRuntime) -> Result<(), Fail> {
+    let alloc = rt.alloc();
+    let mut host = MemHost::new(alloc);
+    let counter = host.create_event(alloc, 0)?;
+    host.signal(counter, 55)?;
+    assert_eq!(rt; host.consume(counter)?, 55);
+    assert_eq!(rt; host.consume(counter), Err(HostError::WouldBlock));
+    host.signal(counter, u64::MAX - 1)?;
+    assert_eq!(rt; host.signal(counter, 1), Err(HostError::WouldBlock));
+    assert_eq!(rt; host.signal(counter, u64::MAX), Err(HostError::EINVAL));
+    let semaphore = host.create_event(alloc, 1)?;
+    host.signal(semaphore, 2)?;
+    assert_eq!(rt; host.consume(semaphore)?, 1);
+    assert_eq!(rt; host.consume(semaphore)?, 1);
+    assert_eq!(rt; host.consume(semaphore), Err(HostError::WouldBlock));
+    Ok(())
+}
+
+#[test]
+fn list_keeps_one_member_for_each_object(rt: HostRuntime) -> Result<(), Fail> {
+    let alloc = rt.alloc();
+    let mut host = MemHost::new(alloc);
+    let list = host.create_list(alloc)?;
+    let object = host.create_event(alloc, 0)?;
+    host.add(alloc, list, object, EventSet::IN, 7)?;
+    assert_eq!(rt;
+        host.add(alloc, list, object, EventSet::IN, 7),
+        Err(HostError::EEXIST)
+    );
+    host.delete(list, object)?;
+    assert_eq!(rt; host.delete(list, object), Err(HostError::ENOENT));
+    let edge = EventSet::EDGE_TRIGGERED;
+    assert_eq!(rt;
+        host.add(alloc, list, object, edge, 7),
+        Err(HostError::EINVAL)
+    );
+    Ok(())
+}
+
+#[test]
+fn ready_takes_the_least_object(rt: HostRuntime) -> Result<(), Fail> {
+    let alloc = rt.alloc();
+    let mut host = MemHost::new(alloc);
+    let list = host.create_list(alloc)?;
+    for token in [10, 11, 12] {
+        let object = host.create_event(alloc, 0)?;
+        let set = EventSet::IN | EventSet::OUT;
+        host.add(alloc, list, object, set, token)?;
+    }
+    host.modify(list, 0, EventSet::IN, 20)?;
+    let Some(first) = host.ready(list)? else {
+        return Err(Fail::from("nothing is ready"));
+    };
+    assert_eq!(rt; first.object, 1);
+    assert_eq!(rt; first.events, EventSet::OUT.bits());
+    assert_eq!(rt; first.token, 11);
+    host.hang_up(0);
+    host.close(1);
+    let ready = host.ready_many(alloc, list, 8)?;
+    assert_eq!(rt; ready.len(), 2);
+    assert_eq!(rt; ready[0].events, EventSet::HANG_UP.bits());
+    assert_eq!(rt; ready[1].object, 2);
+    Ok(())
+}
+
+#[test]
+fn queues_claim_and_listeners_listen(rt: HostRuntime) -> Result<(), Fail> {
+    let alloc = rt.alloc();
+    let mut host = MemHost::new(alloc);
+    let list = host.create_list(alloc)?;
+    let kick = host.create_event(alloc, 0)?;
+    let other = host.create_event(alloc, 0)?;
+    host.claim(kick, 3)?;
+    host.claim(kick, 3)?;
+    assert_eq!(rt; host.claim(kick, 4), Err(HostError::Held));
+    assert_eq!(rt; host.listen(alloc, list, kick, 9), Err(HostError::EEXIST));
+    host.release(kick);
+    host.listen(alloc, list, kick, 9)?;
+    assert_eq!(rt; host.claim(kick, 3), Err(HostError::Held));
+    host.signal(kick, 5)?;
+    assert!(rt; !host.consume_as(list, kick, 8)?);
+    assert!(rt; !host.consume_as(list, other, 9)?);
+    assert!(rt; host.consume_as(list, kick, 9)?);
+    assert_eq!(rt; host.consume(kick), Err(HostError::WouldBlock));
+    assert_eq!(rt; host.unlisten(list, kick, 9), Err(HostError::ENOENT));
+    host.unlisten(list, kick, 8)?;
+    Ok(())
+}
+
+/// The answer of the call with this number, made of a host that has one list, with object 0 as a member.
+fn call<H: Host>(alloc: Global, host: &mut H, call: u32) -> u8 {
+    match call {
+        0 => number_of(host.create_event(alloc, 0)),
+        1 => number_of(host.create_list(alloc)),
+        2 => number_of(host.signal(0, 1)),
+        3 => number_of(host.consume(0)),
+        4 => number_of(host.add(alloc, 0, 1, EventSet::IN, 5)),
+        5 => number_of(host.modify(0, 0, EventSet::IN, 6)),
+        6 => number_of(host.delete(0, 0)),
+        7 => number_of(host.listen(alloc, 0, 1, 5)),
+        8 => number_of(host.unlisten(0, 0, 1)),
+        9 => number_of(host.consume_as(0, 0, 5)),
+        10 => number_of(host.ready(0)),
+        11 => number_of(host.ready_many(alloc, 0, 1)),
+        _ => number_of(host.claim(1, 0)),
+    }
+}
+
+/// A host with one list, of which object 0, with a count of 2, is a member, and an object 1: five calls were made.
+fn prepared(alloc: Global, fails: &[u64]) -> Result<MemHost, HostError> {
+    let mut host = MemHost::failing(alloc, Vec::from_slice(alloc, fails)?)?;
+    let _list = host.create_list(alloc)?;
+    let object = host.create_event(alloc, 0)?;
+    let _other = host.create_event(alloc, 0)?;
+    host.signal(object, 2)?;
+    host.add(alloc, 0, object, EventSet::IN, 5)?;
+    Ok(host)
+}
+
+#[test]
+fn each_call_fails_where_it_is_to_fail(rt: HostRuntime) -> Result<(), Fail> {
+    for number in 0..13 {
+        let mut sound = prepared(rt.alloc(), &[])?;
+        assert_eq!(rt; call(rt.alloc(), &mut sound, number), 0);
+        assert_eq!(rt; sound.faults(), 0);
+        let mut host = prepared(rt.alloc(), &[5, 7])?;
+        assert_eq!(rt; call(rt.alloc(), &mut host, number), 7);
+        assert_eq!(rt; host.faults(), 1);
+        assert_eq!(rt; call(rt.alloc(), &mut host, number), 0);
+        assert_eq!(rt; call(rt.alloc(), &mut host, number), 7);
+        assert_eq!(rt; host.faults(), 2);
+    }
+    Ok(())
+}
+
+#[test]
+fn refusals_have_numbers_and_texts(rt: HostRuntime) -> Result<(), Fail> {
+    let alloc = rt.alloc();
+    for (refusal, number, text) in [
+        (HostError::WouldBlock, 1, "operation would block"),
+        (HostError::EINVAL, 2, "invalid argument"),
+        (HostError::EEXIST, 3, "object is registered already"),
+        (HostError::ENOENT, 4, "object is not registered"),
+        (HostError::EBADF, 5, "bad object or list number"),
+        (HostError::ENOBUFS, 6, "no buffer space available"),
+        (HostError::Failed, 7, "host failed"),
+        (HostError::Held, 8, "object is held"),
+        (HostError::OutOfMemory, 9, "out of memory"),
+    ] {
+        assert_eq!(rt; refusal.number(), number);
+        let shown = format!(in alloc; "{refusal}")?;
+        assert_eq!(rt; shown.as_str(), text);
+    }
+    Ok(())
+}
