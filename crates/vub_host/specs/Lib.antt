@@ -1,0 +1,12 @@
+pub use Rattle.vub_event.specs.Counter
+pub use Rattle.vub_event.specs.Errors
+pub use Rattle.vub_event.specs.Faults
+pub use Rattle.vub_event.specs.HostCalls
+pub use Rattle.vub_event.specs.HostTable
+pub use Rattle.vub_event.specs.InterestList
+pub use Rattle.vub_event.specs.Laws
+pub mod Calls
+pub mod Flags
+pub mod Messages
+pub mod PollEvents
+pub mod Timer

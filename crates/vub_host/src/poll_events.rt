@@ -1,0 +1,242 @@
+ghost use Rattle.std.specs.Prelude.{◌≡◌, ◌≤◌, [], ◌∷◌, length, take, map, IfOk};
+ghost use Rattle.std.specs.Iterator.{YieldsFirstBy, item_count};
+ghost use Rattle.vub_event.specs.Counter.{has_bits};
+ghost use Rattle.vub_host.specs.Calls.{event_of};
+ghost use Rattle.vub_host.specs.PollEvents.{meeting};
+
+use crate::epoll::{EpollEvent, write_events};
+use crate::poll_token::PollToken;
+use std::alloc::Global;
+use std::marker::{Model, PhantomData};
+use vub_base::OutOfMemory;
+use vub_event::Ready;
+
+/// Room for the events of one wait: at most 16. A contract sees the events that are in it.
+#[derive(Drop)]
+pub struct EpollEvents {
+    events: [EpollEvent; 16],
+    count: usize,
+}
+
+impl Model for EpollEvents {
+    ghost use Rattle.std.specs.Prelude.{List, take, ◌≤◌};
+    ghost use Rattle.vub_host.specs.declared.epoll.EpollEvent.{EpollEvent};
+
+    ghost Value = { List EpollEvent };
+
+    ghost view = { λ e. take e.count e.events };
+
+    ghost invariant = { λ e. e.count ≤ 16 };
+}
+
+impl Default for EpollEvents {
+    ghost use Rattle.std.specs.Prelude.{◌≡◌, []};
+
+    ghost is_default = { λ e. e ≡ [] };
+
+    fn default() -> EpollEvents {
+        EpollEvents::new()
+    }
+}
+
+impl EpollEvents {
+    /// No events.
+    pub fn new() -> EpollEvents
+        ensures { result ≡ [] }
+    {
+        EpollEvents {
+            events: [EpollEvent::from_raw(0, 0); 16],
+            count: 0,
+        }
+    }
+
+    /// The events, lent.
+    pub fn as_slice(&self) -> &[EpollEvent]
+        ensures events { result.now ≡ self.now }
+        ensures few { length result.now ≤ 16 }
+    {
+        &self.events[..self.count]
+    }
+
+    /// Holds the events that report these members, at most 16, and no other.
+    pub(crate) fn fill(&mut self, ready: &[Ready])
+        ensures { self.new ≡ map event_of (take 16 ready.now) }
+    {
+        self.count = write_events(&mut self.events, ready);
+    }
+}
+
+/// An event that a wait answered, with the token of its member.
+#[derive(Drop)]
+pub struct PollEvent<T> {
+    event: EpollEvent,
+    tokens: PhantomData<T>,
+}
+
+impl<T: PollToken> PollEvent<T> {
+    /// The token of the member.
+    pub fn token(&self) -> T
+        ensures { result ≡ T.token_of self.now.event.raw }
+    {
+        T::from_raw_token(self.event.raw_data())
+    }
+
+    /// The bits that are reported.
+    pub fn raw_events(&self) -> u32
+        ensures { result ≡ self.now.event.events }
+    {
+        self.event.events()
+    }
+
+    /// Whether there is something to read.
+    pub fn readable(&self) -> bool
+        ensures { result ≡ has_bits self.now.event.events 1 }
+    {
+        self.event.events() & 1 == 1
+    }
+
+    /// Whether a write is taken.
+    pub fn writable(&self) -> bool
+        ensures { result ≡ has_bits self.now.event.events 4 }
+    {
+        self.event.events() & 4 == 4
+    }
+
+    /// Whether it is hung up.
+    pub fn hungup(&self) -> bool
+        ensures { result ≡ has_bits self.now.event.events 0x10 }
+    {
+        self.event.events() & 0x10 == 0x10
+    }
+
+    /// Whether it has an error.
+    pub fn has_error(&self) -> bool
+        ensures { result ≡ has_bits self.now.event.events 8 }
+    {
+        self.event.events() & 8 == 8
+    }
+}
+
+/// The events of a poll whose bits meet a mask, one after the other.
+#[derive(Drop)]
+pub struct PollEventIter<'a, T> {
+    mask: u32,
+    events: &'a [EpollEvent],
+    tokens: PhantomData<T>,
+    ghost few: { length events.now ≤ 16 },
+}
+
+impl<'a, T: PollToken> Iterator for PollEventIter<'a, T> {
+    type Item = PollEvent<T>;
+
+    ghost next_gives = { YieldsFirstBy (λ item. item.event) (λ it. meeting it.mask it.events.now) };
+
+    ghost remaining = { item_count (λ it. meeting it.mask it.events.now) };
+
+    fn next(&mut self) -> Option<PollEvent<T>> {
+        while let [event, rest @ ..] = self.events {
+            self.events = rest;
+            if event.events() & self.mask != 0 {
+                let event = *event;
+                let tokens = PhantomData;
+                return Some(PollEvent { event, tokens });
+            }
+        }
+        None
+    }
+}
+
+/// The events that a wait answered: at most 16.
+#[derive(Drop)]
+pub struct PollEvents<'a, T> {
+    events: &'a [EpollEvent],
+    tokens: PhantomData<T>,
+    ghost few: { length events.now ≤ 16 },
+}
+
+impl<'a, T: PollToken> PollEvents<'a, T> {
+    /// These events.
+    pub fn new(events: &'a [EpollEvent]) -> PollEvents<'a, T>
+        requires { length events.now ≤ 16 }
+        ensures { result.events.now ≡ events.now }
+    {
+        PollEvents {
+            events,
+            tokens: PhantomData,
+        }
+    }
+
+    /// The events, lent.
+    pub fn events(&self) -> &'a [EpollEvent]
+        ensures { result.now ≡ self.now.events.now }
+    {
+        self.events
+    }
+
+    /// A copy that borrows nothing.
+    ///
+    /// # Errors
+    /// Want of memory.
+    pub fn to_owned(&self, alloc: Global) -> Result<PollEventsOwned<T>, OutOfMemory>
+        ensures { IfOk result (λ owned. owned.events.items ≡ self.now.events.now) }
+    {
+        let events = Vec::from_slice(alloc, self.events)?;
+        Ok(PollEventsOwned {
+            events,
+            tokens: PhantomData,
+        })
+    }
+
+    /// All events.
+    pub fn iter(&self) -> PollEventIter<'a, T>
+        ensures mask { result.mask ≡ 0xffffffff }
+        ensures events { result.events.now ≡ self.now.events.now }
+    {
+        PollEventIter {
+            mask: 0xffff_ffff,
+            events: self.events,
+            tokens: PhantomData,
+        }
+    }
+
+    /// The events with something to read.
+    pub fn iter_readable(&self) -> PollEventIter<'a, T>
+        ensures mask { result.mask ≡ 1 }
+        ensures events { result.events.now ≡ self.now.events.now }
+    {
+        PollEventIter {
+            mask: 1,
+            events: self.events,
+            tokens: PhantomData,
+        }
+    }
+
+    /// The events that are hung up.
+    pub fn iter_hungup(&self) -> PollEventIter<'a, T>
+        ensures mask { result.mask ≡ 0x10 }
+        ensures events { result.events.now ≡ self.now.events.now }
+    {
+        PollEventIter {
+            mask: 0x10,
+            events: self.events,
+            tokens: PhantomData,
+        }
+    }
+}
+
+/// The events that a wait answered, owned.
+#[derive(Drop)]
+pub struct PollEventsOwned<T> {
+    events: Vec<EpollEvent>,
+    tokens: PhantomData<T>,
+    ghost few: { length events.items ≤ 16 },
+}
+
+impl<T: PollToken> PollEventsOwned<T> {
+    /// The events, lent.
+    pub fn as_ref(&self) -> PollEvents<'_, T>
+        ensures { result.events.now ≡ self.now.events.items }
+    {
+        PollEvents::new(self.events.as_slice())
+    }
+}

@@ -1,0 +1,212 @@
+use crate::{
+    ControlOperation, Epoll, EpollContext, EpollEvent, EpollEvents, EventFd, EventFlag, EventSet,
+    Host, HostError, MemHost, MemSocket, PollContext, PollEvents, PollToken, ScmSocket, TimerFd,
+    WatchingEvents, new_event_consumer_and_notifier, timeout_millis,
+};
+use log::sink::Memory;
+use std::process::Abort;
+use std::test::Fail;
+use std::time::Duration;
+
+#[test]
+fn timeouts_are_in_milliseconds(rt: HostRuntime) {
+    for (timeout, millis) in [
+        (Duration::from_millis(1_500), 1_500),
+        (Duration::from_secs(3_000_000), i32::MAX),
+        (Duration::from_secs(9_223_372_036_854_775_807), -1),
+    ] {
+        assert_eq!(rt; timeout_millis(timeout), millis);
+    }
+}
+
+#[test]
+fn timer_counts_its_expiries(rt: HostRuntime) {
+    let mut timer = TimerFd::new();
+    let interval = Some(Duration::from_secs(5));
+    timer.reset(Duration::ZERO, Duration::from_secs(10), interval);
+    assert!(rt; timer.is_armed(Duration::from_secs(9)));
+    assert_eq!(rt;
+        timer.wait(Duration::from_secs(9)),
+        Err(HostError::WouldBlock)
+    );
+    assert_eq!(rt; timer.wait(Duration::from_secs(21)), Ok(3));
+    assert_eq!(rt; timer.wait(Duration::from_secs(25)), Ok(1));
+}
+
+#[test]
+fn timer_without_interval_expires_once(rt: HostRuntime) {
+    let mut timer = TimerFd::new();
+    timer.reset(Duration::ZERO, Duration::from_secs(1), None);
+    assert_eq!(rt; timer.wait(Duration::from_secs(7)), Ok(1));
+    assert!(rt; !timer.is_armed(Duration::from_secs(7)));
+    timer.reset(Duration::ZERO, Duration::from_secs(1), None);
+    timer.clear();
+    assert!(rt; !timer.is_armed(Duration::ZERO));
+}
+
+#[test]
+fn counter_is_shared_by_its_clones(rt: HostRuntime) -> Result<(), Fail> {
+    let mut host = MemHost::new(rt.alloc());
+    let counter = EventFd::new(rt.alloc(), &mut host, 0)?;
+    counter.write(&mut host, 55)?;
+    assert_eq!(rt; counter.try_clone()?.read(&mut host)?, 55);
+    let same = EventFd::from_object(counter.object());
+    assert_eq!(rt; same.read(&mut host), Err(HostError::WouldBlock));
+    Ok(())
+}
+
+#[test]
+fn consumer_takes_what_the_notifier_told(rt: HostRuntime) -> Result<(), Fail> {
+    let mut host = MemHost::new(rt.alloc());
+    let flags = EventFlag::NONBLOCK;
+    let (consumer, notifier) = new_event_consumer_and_notifier(rt.alloc(), &mut host, flags)?;
+    assert_eq!(rt; consumer.object(), notifier.object());
+    notifier.try_clone()?.notify(&mut host)?;
+    consumer.try_clone()?.consume(&mut host)?;
+    assert_eq!(rt; consumer.consume(&mut host), Err(HostError::WouldBlock));
+    Ok(())
+}
+
+#[test]
+fn list_refuses_a_second_member(rt: HostRuntime) -> Result<(), Fail> {
+    let mut host = MemHost::new(rt.alloc());
+    let epoll = Epoll::new(rt.alloc(), &mut host)?;
+    let object = host.create_event(rt.alloc(), 0)?;
+    let event = EpollEvent::new(EventSet::OUT, 3);
+    let edge = EpollEvent::new(EventSet::EDGE_TRIGGERED, 1);
+    for (operation, event, answer) in [
+        (ControlOperation::Add, edge, Err(HostError::EINVAL)),
+        (ControlOperation::Add, event, Ok(())),
+        (ControlOperation::Add, event, Err(HostError::EEXIST)),
+        (ControlOperation::Modify, event, Ok(())),
+        (ControlOperation::Delete, event, Ok(())),
+        (ControlOperation::Delete, event, Err(HostError::ENOENT)),
+    ] {
+        assert_eq!(rt;
+            epoll.ctl(rt.alloc(), &mut host, operation, object, event),
+            answer
+        );
+    }
+    Ok(())
+}
+
+#[test]
+fn list_reports_what_is_ready(rt: HostRuntime) -> Result<(), Fail> {
+    let mut host = MemHost::new(rt.alloc());
+    let epoll = Epoll::new(rt.alloc(), &mut host)?;
+    let object = host.create_event(rt.alloc(), 0)?;
+    let event = EpollEvent::new(EventSet::OUT, 3);
+    epoll.ctl(rt.alloc(), &mut host, ControlOperation::Add, object, event)?;
+    let mut events = [EpollEvent::default(); 2];
+    assert_eq!(rt; epoll.wait(rt.alloc(), &mut host, &mut events)?, 1);
+    assert_eq!(rt; events[0].events(), 4);
+    assert_eq!(rt; events[0].raw_data(), 3);
+    Ok(())
+}
+
+#[test]
+fn event_has_bits_and_data(rt: HostRuntime) -> Result<(), Fail> {
+    assert!(rt; EpollEvent::from_raw(0x20, 0).event_set().is_none());
+    assert_eq!(rt;
+        EpollEvent::from_raw(0x10, 0).event_set(),
+        Some(EventSet::HANG_UP)
+    );
+    assert_eq!(rt; EpollEvent::from_raw(0, 0xffff_ffff_ffff_fffe).fd(), -2);
+    let shown = format!(in rt.alloc(); "{:?}", EpollEvent::default())?;
+    assert_eq!(rt; shown.as_str(), "{ events: 0, data: 0 }");
+    Ok(())
+}
+
+#[test]
+fn event_tells_what_it_reports(rt: HostRuntime) -> Result<(), Fail> {
+    let events = [EpollEvent::from_raw(0x1d, 0x10)];
+    let polled: PollEvents<u32> = PollEvents::new(&events);
+    let owned = polled.to_owned(rt.alloc())?;
+    for event in owned.as_ref().iter() {
+        assert_eq!(rt; event.token(), 0x10);
+        assert_eq!(rt; event.raw_events(), 0x1d);
+        assert!(rt; event.readable() && event.writable());
+        assert!(rt; event.hungup() && event.has_error());
+    }
+    Ok(())
+}
+
+#[test]
+fn tokens_are_cut_to_their_bits(rt: HostRuntime) {
+    let raw = 0x1122_3344_5566_7788;
+    assert_eq!(rt; u64::from_raw_token(raw), raw);
+    assert_eq!(rt; usize::from_raw_token(raw).as_raw_token(), raw);
+    assert_eq!(rt; u32::from_raw_token(raw).as_raw_token(), 0x5566_7788);
+    assert_eq!(rt; u16::from_raw_token(raw).as_raw_token(), 0x7788);
+    assert_eq!(rt; u8::from_raw_token(raw).as_raw_token(), 0x88);
+    assert_eq!(rt; <()>::from_raw_token(raw).as_raw_token(), 0);
+}
+
+#[test]
+fn context_names_its_objects(rt: HostRuntime) -> Result<(), Fail> {
+    let mut host = MemHost::new(rt.alloc());
+    let context: EpollContext<u8> = EpollContext::new(rt.alloc(), &mut host)?;
+    let object = host.create_event(rt.alloc(), 0)?;
+    context.add(rt.alloc(), &mut host, object, 7)?;
+    let both = WatchingEvents::empty().set_read().set_write();
+    context.modify(&mut host, object, both, 8)?;
+    let mut events = EpollEvents::new();
+    let polled = context.wait(rt.alloc(), &mut host, &mut events)?;
+    assert_eq!(rt; polled.events().len(), 1);
+    context.delete(&mut host, object)?;
+    Ok(())
+}
+
+#[test]
+fn busy_loop_is_warned_of_once(rt: HostRuntime) -> Result<(), Fail> {
+    let mut host = MemHost::new(rt.alloc());
+    let log = Memory::new(rt.alloc());
+    let mut context: PollContext<u8> = PollContext::new(rt.alloc(), &mut host)?;
+    let object = host.create_event(rt.alloc(), 0)?;
+    context.add(rt.alloc(), &mut host, object, 7)?;
+    host.hang_up(object);
+    for wait in 0..6 {
+        context.set_check_for_hangup(wait > 1);
+        let _polled = context.wait(rt.alloc(), &mut host, &log)?;
+    }
+    let lines = log.into_lines();
+    assert_eq!(rt; lines.len(), 1);
+    for line in lines.as_slice() {
+        let text = "busy poll wait loop with hungup FDs detected";
+        assert!(rt; line.as_str().contains(text));
+    }
+    Ok(())
+}
+
+#[test]
+fn message_with_too_many_objects_is_gone(rt: HostRuntime) -> Result<(), Fail> {
+    let mut host = MemHost::new(rt.alloc());
+    let first = host.create_event(rt.alloc(), 0)?;
+    let mut socket = MemSocket::new(rt.alloc());
+    let bufs = [Vec::from_slice(rt.alloc(), b"abc")?];
+    let sent = socket.send_with_fds(rt.alloc(), &mut host, &bufs, &[first, 1])?;
+    assert_eq!(rt; sent, 3);
+    let mut buf = [0; 2];
+    assert_eq!(rt;
+        socket.recv_with_fd(&mut host, &mut buf),
+        Err(HostError::ENOBUFS)
+    );
+    assert_eq!(rt; host.signal(first, 1), Err(HostError::EBADF));
+    assert_eq!(rt;
+        socket.recv_with_fd(&mut host, &mut buf),
+        Err(HostError::WouldBlock)
+    );
+    Ok(())
+}
+
+#[test]
+fn message_is_cut_to_the_buffer(rt: HostRuntime) -> Result<(), Fail> {
+    let mut host = MemHost::new(rt.alloc());
+    let mut socket = MemSocket::new(rt.alloc());
+    let sent = socket.send_with_fd(rt.alloc(), &mut host, b"xyz".as_slice(), 5)?;
+    assert_eq!(rt; sent, 3);
+    let mut buf = [0; 2];
+    assert_eq!(rt; socket.recv_with_fd(&mut host, &mut buf)?, (2, Some(5)));
+    assert_eq!(rt; buf.as_slice(), b"xy".as_slice());
+    Ok(())
+}
