@@ -1,0 +1,4 @@
+pub mod CellLemmas
+pub mod ToldLemmas
+pub mod BitLemmas
+pub mod StoreLemmas

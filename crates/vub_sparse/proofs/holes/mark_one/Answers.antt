@@ -1,0 +1,10 @@
+use Rattle.std.proofs.Common.{subst, sym}
+use Rattle.vub_sparse.specs.Holes.{Marked}
+use Rattle.vub_sparse.proofs.BitLemmas.{marked_hole, marked_byte}
+use Rattle.vub_sparse.proofs.holes.mark_one.Goals as goal
+
+pub returns-then-hole : goal.returns-then-hole
+returns-then-hole c = rw c.if-hole.true (marked_hole c.args.words.now c.args.place c.requires)
+
+pub returns-else-hole : goal.returns-else-hole
+returns-else-hole c = rw c.if-hole.false (marked_byte c.args.words.now c.args.place c.requires)

@@ -1,0 +1,5 @@
+use Rattle.vub_sparse.proofs.CellLemmas.{all_zeroes}
+use Rattle.vub_sparse.proofs.zeroes.zero_piece.Goals as goal
+
+pub returns-clause-zeroes : goal.returns-clause-zeroes
+returns-clause-zeroes c = λ k h. all_zeroes 4096 c.args.count k h c.requires

@@ -1,0 +1,5 @@
+pub mod Cells
+pub mod Refusals
+pub mod Seek
+pub mod Holes
+pub mod Memory
