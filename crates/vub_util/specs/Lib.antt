@@ -1,0 +1,4 @@
+pub mod Align
+pub mod Errno
+pub mod Ioctl
+pub mod Syscall
