@@ -1,0 +1,9 @@
+pub mod Attributes
+pub mod Building
+pub mod Content
+pub mod Directory
+pub mod Layout
+pub mod Names
+pub mod Replies
+pub mod Requests
+pub mod Tree

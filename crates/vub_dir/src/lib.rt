@@ -1,0 +1,24 @@
+//! A shared directory over the queues of a virtio-fs device: a tree of directories and files in memory, and the
+//! replies to the guest's FUSE requests.
+#![tactic(auto)]
+
+mod answers;
+mod building;
+mod content;
+mod directory;
+mod entry;
+pub mod fuse;
+mod header;
+mod layout;
+mod listing;
+mod names;
+mod node;
+mod slot;
+mod tree;
+
+pub use directory::{DirService, reply};
+pub use entry::{TreeEntry, TreeError};
+pub use tree::Tree;
+
+#[cfg(test)]
+mod tests;
