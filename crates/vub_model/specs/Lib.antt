@@ -1,0 +1,15 @@
+pub mod Constants
+pub mod EntryNumber
+pub mod Frame
+pub mod Held
+pub mod Opening
+pub mod RingRecord
+pub mod RunOf
+pub mod RunRecords
+pub mod Running
+pub mod Service
+pub mod ValidSetup
+pub mod Wiring
+pub mod Work
+pub mod World
+pub mod Written

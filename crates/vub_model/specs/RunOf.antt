@@ -1,0 +1,32 @@
+-- Runs of the machine: one label for each turn of a schedule.
+use Rattle.std.specs.Prelude.{◌≡◌, ℕ, ◌-◌, ◌==◌, if◌then◌else◌, List, [], ◌∷◌}
+use Rattle.vub_model.specs.declared.label.Label.{Label}
+use Rattle.vub_model.specs.declared.label.Label.TheVariants as label
+use Rattle.vub_model.specs.declared.party.Party.{Party}
+use Rattle.vub_model.specs.declared.party.Party.TheVariants as party
+use Rattle.vub_model.specs.Service.{Meaning}
+use Rattle.vub_model.specs.World.{World, May, after}
+
+-- party 0 is the guest, party 1 is control, and party 2 + w is worker w
+abbrev pub party_of : ℕ → Party
+party_of turn = if turn == 0 then party.Guest else (if turn == 1 then party.Control else party.Worker (turn - 2))
+
+-- no label may be played by this party
+abbrev pub HasNoStep : {V : Type 0} → World V → Party → Type 0
+HasNoStep w p = (l : Label) → May w p l → ⊥
+
+-- From old, this party plays this label and leaves new. It passes exactly where it has no step.
+abbrev pub Turn : {V : Type 0} → Meaning V → World V → Party → Label → World V → Type 0
+Turn m old p label.Pass new = HasNoStep old p × (new ≡ old)
+Turn m old p l new = May old p l × (new ≡ after m old p l)
+
+-- these labels are a run for this schedule
+abbrev pub IsRun : {V : Type 0} → Meaning V → List ℕ → List Label → World V → World V → Type 0
+IsRun m [] [] old new = new ≡ old
+IsRun {V} m (turn ∷ turns) (l ∷ labels) old new = (mid : World V) × Turn m old (party_of turn) l mid × IsRun m turns labels mid new
+IsRun m [] (l ∷ labels) old new = ⊥
+IsRun m (turn ∷ turns) [] old new = ⊥
+
+-- no party has a step
+abbrev pub IsAtRest : {V : Type 0} → World V → Type 0
+IsAtRest w = (p : Party) → HasNoStep w p

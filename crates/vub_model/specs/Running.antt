@@ -1,0 +1,89 @@
+-- Entries in a worker's hand, queues that run, and queues that are calm.
+use Rattle.std.specs.Prelude.{◌≡◌, ℕ, Bool, true, false, ◌&&◌, ◌==◌, if◌then◌else◌, List, [], ◌∷◌, Some}
+use Rattle.std.specs.Int.{w16}
+use Rattle.vub_mem.specs.Place.{number_at}
+use Rattle.vub_queue.specs.Layout.{avail_index_at}
+use Rattle.vub_model.specs.declared.entry.Entry.{Entry}
+use Rattle.vub_model.specs.declared.flight.Flight.TheVariants as flight
+use Rattle.vub_model.specs.declared.label.Label.{Label}
+use Rattle.vub_model.specs.declared.label.Label.TheVariants as label
+use Rattle.vub_model.specs.declared.party.Party.{Party}
+use Rattle.vub_model.specs.declared.party.Party.TheVariants as party
+use Rattle.vub_model.specs.declared.phase.Phase.{Phase}
+use Rattle.vub_model.specs.declared.phase.Phase.TheVariants.{Taken, Served, Stopped}
+use Rattle.vub_model.specs.declared.setup.Guest.{Guest}
+use Rattle.vub_model.specs.declared.setup.Guest.TheVariants.{Store, Signal}
+use Rattle.vub_model.specs.declared.wiring.Place.{Place}
+use Rattle.vub_model.specs.RingRecord.{is_on, has_addresses}
+use Rattle.vub_model.specs.EntryNumber.{has_left}
+use Rattle.vub_model.specs.Held.{Held, ring_at}
+use Rattle.vub_model.specs.Wiring.{place_of}
+use Rattle.vub_model.specs.Work.{is_object}
+use Rattle.vub_model.specs.World.{World, phase_at, after}
+use Rattle.vub_model.specs.RunOf.{party_of}
+use Rattle.vub_model.specs.Service.{Meaning}
+
+-- the worker has stopped
+abbrev pub HasStopped : Phase → Type 0
+HasStopped (Stopped cause) = Unit {0}
+HasStopped phase = ⊥
+
+-- the entry is in the hand of a worker in this phase
+abbrev pub InHand : Phase → Entry → Type 0
+InHand (Taken e queues) entry = e ≡ entry
+InHand (Served e reply queues) entry = e ≡ entry
+InHand phase entry = ⊥
+
+-- the entry was taken and not used, and its worker has not stopped
+abbrev pub IsInFlight : {V : Type 0} → World V → Entry → Type 0
+IsInFlight w entry = (worker : ℕ) × InHand (phase_at w.phases worker) entry
+
+-- the queue's last entry was taken and not used, and its worker has stopped
+abbrev pub HoldsEntry : {V : Type 0} → World V → ℕ → Type 0
+HoldsEntry w queue = (ring_at w.held queue).flight ≡ flight.Held
+
+-- The queue runs: it is ready and enabled, and has a kick, addresses and a worker that has not stopped.
+pub record IsRunning {V : Type 0} (w : World V) (queue : ℕ) : Type 0 where
+  pub place : Place
+  pub kick : ℕ
+  pub placed : place_of w.wiring queue ≡ Some place
+  pub has_kick : (ring_at w.held queue).kick ≡ Some kick
+  pub on : is_on (ring_at w.held queue) ≡ true
+  pub addresses : has_addresses (ring_at w.held queue) ≡ true
+  pub goes : HasStopped (phase_at w.phases place.worker) → ⊥
+
+-- the available index word, as the memory now shows it
+abbrev pub index_word : {V : Type 0} → Held V → ℕ → ℕ
+index_word h queue = number_at w16 h.guest (avail_index_at (ring_at h queue).queue)
+
+-- the guest's next action signals the kick of the queue
+abbrev pub signals_kick : {V : Type 0} → Held V → List Guest → ℕ → Bool
+signals_kick h [] queue = false
+signals_kick h (Store object offset bytes ∷ actions) queue = false
+signals_kick h (Signal object ∷ actions) queue = is_object (ring_at h queue).kick object
+
+abbrev pub signals : {V : Type 0} → World V → Party → Label → ℕ → Bool
+signals w party.Guest label.Guest queue = signals_kick w.held w.guest queue
+signals w p l queue = false
+
+-- Calm: the kick was signalled, or its registration was accepted, and after the last such step there was none after
+-- which a byte of the available index word differs.
+abbrev pub calm_after : {V : Type 0} → World V → Party → Label → World V → (ℕ → Bool) → ℕ → Bool
+calm_after old p l new calm queue =
+    if signals old p l queue then true else calm queue && (index_word new.held queue == index_word old.held queue)
+
+-- the world after a turn
+abbrev pub next : {V : Type 0} → Meaning V → World V → Party → Label → World V
+next m w p label.Pass = w
+next m w p l = after m w p l
+
+-- which queues are calm at the end of a run
+abbrev pub calm_end : {V : Type 0} → Meaning V → List ℕ → List Label → World V → (ℕ → Bool) → ℕ → Bool
+calm_end m [] labels w calm = calm
+calm_end m (turn ∷ turns) [] w calm = calm
+calm_end m (turn ∷ turns) (l ∷ labels) w calm =
+    calm_end m turns labels (next m w (party_of turn) l) (calm_after w (party_of turn) l (next m w (party_of turn) l) calm)
+
+-- at rest a calm running queue has no entry left
+abbrev pub NoneIsLost : {V : Type 0} → World V → (ℕ → Bool) → Type 0
+NoneIsLost w calm = (queue : ℕ) → IsRunning w queue → calm queue ≡ true → has_left w.held.guest (ring_at w.held queue) ≡ false

@@ -1,0 +1,95 @@
+-- The state of the machine with what a run records, which label a party may play, and what is after it.
+use Rattle.std.specs.Prelude.{◌≢◌, ℕ, Bool, List, [], ◌∷◌, ◌++◌, slice_index_or, slice_set, Result, Ok, Err}
+use Rattle.vub_mem.specs.Place.{store_at}
+use Rattle.vub_proto.specs.declared.used.Used.{Used}
+use Rattle.vub_queue.specs.declared.putting.PutFault.{PutFault}
+use Rattle.vub_model.specs.declared.cause.StopCause.TheVariants.{Exit}
+use Rattle.vub_model.specs.declared.entry.Entry.{Entry}
+use Rattle.vub_model.specs.declared.label.Label.{Label}
+use Rattle.vub_model.specs.declared.label.Label.TheVariants as label
+use Rattle.vub_model.specs.declared.party.Party.{Party}
+use Rattle.vub_model.specs.declared.party.Party.TheVariants as party
+use Rattle.vub_model.specs.declared.phase.Phase.{Phase}
+use Rattle.vub_model.specs.declared.phase.Phase.TheVariants.{Serving, Taken, Served, Stopped}
+use Rattle.vub_model.specs.declared.records.Take.{Take}
+use Rattle.vub_model.specs.declared.setup.Guest.{Guest}
+use Rattle.vub_model.specs.declared.setup.Guest.TheVariants.{Store, Signal}
+use Rattle.vub_model.specs.Held.{Held, ring_at, raised}
+use Rattle.vub_model.specs.Service.{Meaning}
+use Rattle.vub_model.specs.Wiring.{Wiring}
+use Rattle.vub_model.specs.Work.{Local, MayWork, after_work, looked, put_said, is_live}
+use Rattle.vub_model.specs.Written.{Spot, put_spots, take_spots}
+use Rattle.std.specs.Prelude.{if◌then◌else◌}
+
+pub record World (V : Type 0) : Type 0 where
+  pub held : Held V
+  pub wiring : Wiring
+  -- by worker
+  pub phases : List Phase
+  -- the actions of the guest that are left
+  pub guest : List Guest
+  -- what was taken, used and written so far, in order
+  pub takes : List Take
+  pub uses : List Used
+  pub written : List Spot
+
+-- a worker that is not there has stopped
+abbrev pub phase_at : List Phase → ℕ → Phase
+phase_at phases worker = slice_index_or phases worker (Stopped Exit)
+
+-- Guest
+
+abbrev pub acted : {V : Type 0} → Held V → Guest → Held V
+acted h (Store object offset bytes) = record h { guest = store_at h.guest object offset bytes }
+acted h (Signal object) = raised h object
+
+abbrev pub after_guest : {V : Type 0} → World V → List Guest → World V
+after_guest w [] = w
+after_guest w (action ∷ actions) = record w { held = acted w.held action; guest = actions }
+
+-- What a worker's step records
+
+abbrev pub take_of : Entry → Take
+take_of e = record { queue = e.queue; epoch = e.epoch; number = e.number; head = e.chain.head; request = e.chain.request; room = e.chain.room }
+
+abbrev pub used_of : Entry → List ℕ → Used
+used_of e reply = record { queue = e.queue; epoch = e.epoch; number = e.number; head = e.chain.head; reply = reply }
+
+-- what a Take that ends in this phase took
+abbrev pub takes_by : Label → Phase → List Take
+takes_by label.Take (Taken e queues) = take_of e ∷ []
+takes_by l phase = []
+
+abbrev pub if_used : {A : Type 0} → Result Bool PutFault → List A → List A
+if_used (Ok wanted) xs = xs
+if_used (Err fault) xs = []
+
+-- what a Put that begins in this phase used
+abbrev pub uses_by : {V : Type 0} → Held V → Label → Phase → List Used
+uses_by h label.Put (Served e reply queues) = if_used (put_said h e reply) (used_of e reply ∷ [])
+uses_by h l phase = []
+
+-- the bytes that a step that begins in this phase wrote
+abbrev pub written_by : {V : Type 0} → Held V → Label → Phase → List Spot
+written_by h label.Take (Serving (queue ∷ rest)) =
+    if is_live (ring_at h queue) then take_spots h.guest.regions (ring_at h queue).queue (looked h queue) else []
+written_by h label.Put (Served e reply queues) =
+    if_used (put_said h e reply) (put_spots h.guest.regions (ring_at h e.queue).queue e.chain reply)
+written_by h l phase = []
+
+abbrev pub after_local : {V : Type 0} → World V → ℕ → Label → Phase → Local V → World V
+after_local w worker l before local =
+    record w { held = local.held; phases = slice_set w.phases worker local.phase; takes = w.takes ++ takes_by l local.phase; uses = w.uses ++ uses_by w.held l before; written = w.written ++ written_by w.held l before }
+
+-- May and After
+
+-- the label may be played by this party now
+abbrev pub May : {V : Type 0} → World V → Party → Label → Type 0
+May w party.Guest label.Guest = w.guest ≢ []
+May w (party.Worker k) l = MayWork w.wiring k w.held (phase_at w.phases k) l
+May w p l = ⊥
+
+abbrev pub after : {V : Type 0} → Meaning V → World V → Party → Label → World V
+after m w party.Guest label.Guest = after_guest w w.guest
+after m w (party.Worker k) l = after_local w k l (phase_at w.phases k) (after_work m w.wiring k w.held (phase_at w.phases k) l)
+after m w p l = w

@@ -1,0 +1,28 @@
+//! The machine of party turns: the plain types that its definitions speak of.
+#![tactic(auto)]
+
+mod cause;
+mod constants;
+mod entry;
+mod flight;
+mod label;
+mod party;
+mod phase;
+mod records;
+mod ring_op;
+mod run;
+mod setup;
+mod wiring;
+
+pub use cause::{StopCause, VringEpollError, Why};
+pub use constants::Constants;
+pub use entry::Entry;
+pub use flight::Flight;
+pub use label::Label;
+pub use party::Party;
+pub use phase::Phase;
+pub use records::{Count, Span, Stop, Take};
+pub use ring_op::{RingOp, RingSaid};
+pub use run::{DriveFault, Run, SetupFault};
+pub use setup::{GivenRegion, GivenRing, Guest, Info, Object, Setup};
+pub use wiring::{Known, Opened, Place};
