@@ -1,0 +1,4 @@
+pub mod Told
+pub mod SourceInMemory
+pub mod SinkInMemory
+pub mod Whole
