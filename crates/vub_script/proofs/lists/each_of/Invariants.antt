@@ -1,0 +1,8 @@
+use Rattle.std.proofs.Common.{◌≡◌, map}
+use Rattle.serde_json.specs.View.{view}
+use Rattle.vub_script.specs.Lists.{each}
+use Rattle.vub_script.proofs.Trees.{onward}
+use Rattle.vub_script.proofs.lists.each_of.Given as goal
+
+abbrev pub invariant-loop-value : goal.invariant-loop-value
+invariant-loop-value g l = onward g.T.FromTree.reads l.found l.value-index l.list ≡ each g.T.FromTree.reads (map view l.list)

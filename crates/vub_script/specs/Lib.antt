@@ -1,0 +1,12 @@
+pub mod Reading
+pub mod Numbers
+pub mod Hexadecimal
+pub mod Leaves
+pub mod Lists
+pub mod Objects
+pub mod Regions
+pub mod Rings
+pub mod Guest
+pub mod Keys
+pub mod Draft
+pub mod Script

@@ -1,0 +1,81 @@
+ghost use Rattle.std.specs.Prelude.{◌≡◌, string_bytes};
+ghost use Rattle.std.specs.List.{list_all};
+ghost use Rattle.std.specs.BTreeMap.{keys};
+ghost use Rattle.serde_json.specs.View.{view};
+ghost use Rattle.vub_script.specs.Keys.{is_setup_key, is_device_key, is_turn_key, is_key, has_form, is_ring_place_key, is_ring_state_key, is_ring_key, has_ring_form};
+
+use serde_json::{Map, Value};
+
+fn is_a_setup_key(key: &str) -> bool
+    ensures { result ≡ is_setup_key key.now }
+{
+    key == "objects" || key == "regions" || key == "rings" || key == "guest"
+}
+
+fn is_a_device_key(key: &str) -> bool
+    ensures { result ≡ is_device_key key.now }
+{
+    key == "max_size"
+}
+
+fn is_a_turn_key(key: &str) -> bool
+    ensures { result ≡ is_turn_key key.now }
+{
+    key == "schedule" || key == "rounds"
+}
+
+fn is_a_key(key: &str) -> bool
+    ensures { result ≡ is_key key.now }
+{
+    is_a_setup_key(key) || is_a_device_key(key) || is_a_turn_key(key)
+}
+
+fn has_only_keys(map: &Map<String, Value>) -> bool
+    ensures { result ≡ list_all (λ k. is_key (string_bytes k)) (keys map.now) }
+{
+    map.keys().all(|key| is_a_key(key.as_str()))
+}
+
+/// Whether the tree is an object with a script's keys and no others.
+pub fn is_in_form(value: &Value) -> bool
+    ensures { result ≡ has_form (view value.now) }
+{
+    match value {
+        Value::Object(map) => has_only_keys(map),
+        _ => false,
+    }
+}
+
+fn is_a_ring_place_key(key: &str) -> bool
+    ensures { result ≡ is_ring_place_key key.now }
+{
+    key == "queue" || key == "size" || key == "info" || key == "base" || key == "next_used"
+}
+
+fn is_a_ring_state_key(key: &str) -> bool
+    ensures { result ≡ is_ring_state_key key.now }
+{
+    key == "kick" || key == "call" || key == "ready" || key == "enabled"
+}
+
+fn is_a_ring_key(key: &str) -> bool
+    ensures { result ≡ is_ring_key key.now }
+{
+    is_a_ring_place_key(key) || is_a_ring_state_key(key)
+}
+
+fn has_only_ring_keys(map: &Map<String, Value>) -> bool
+    ensures { result ≡ list_all (λ k. is_ring_key (string_bytes k)) (keys map.now) }
+{
+    map.keys().all(|key| is_a_ring_key(key.as_str()))
+}
+
+/// Whether the tree is an object with a ring's keys and no others.
+pub fn is_in_ring_form(value: &Value) -> bool
+    ensures { result ≡ has_ring_form (view value.now) }
+{
+    match value {
+        Value::Object(map) => has_only_ring_keys(map),
+        _ => false,
+    }
+}

@@ -1,0 +1,33 @@
+ghost use Rattle.std.specs.Prelude.{map};
+ghost use Rattle.serde_json.specs.View.{view};
+ghost use Rattle.vub_script.specs.Reading.{Gives};
+ghost use Rattle.vub_script.specs.Lists.{each, list_of};
+
+use crate::refusal::Refusal;
+use crate::tree::FromTree;
+use serde_json::Value;
+use std::alloc::Global;
+use vub_base::Listed;
+
+/// Each of them, in order.
+fn each_of<T: FromTree>(alloc: Global, list: &[Value]) -> Result<Listed<T>, Refusal>
+    ensures { Gives result (each T.reads (map view list.now)) }
+{
+    let mut found: Listed<T> = Listed::new(alloc);
+    for value in list {
+        let part = T::from_tree(alloc, value)?;
+        found.push(part)?;
+    }
+    Ok(found)
+}
+
+impl<T: FromTree> FromTree for Listed<T> {
+    ghost reads = { list_of T.reads };
+
+    fn from_tree(alloc: Global, value: &Value) -> Result<Listed<T>, Refusal> {
+        match value {
+            Value::Array(list) => each_of(alloc, list),
+            _ => Err(Refusal::NoScript),
+        }
+    }
+}

@@ -1,0 +1,106 @@
+ghost use Rattle.std.specs.Prelude.{◌≡◌, ◌<◌, length, true};
+ghost use Rattle.std.specs.List.{list_all};
+ghost use Rattle.vub_script.specs.Reading.{Gives};
+ghost use Rattle.vub_script.specs.Numbers.{is_lower_hex, hex_digit, hex_value, is_hex_number, hex_number, number_of, u32_of, u16_of};
+
+use crate::refusal::Refusal;
+use crate::tree::FromTree;
+use serde_json::Value;
+use std::alloc::Global;
+
+/// Whether this byte is one of `0` to `9` and `a` to `f`.
+fn is_lower_hex_digit(byte: u8) -> bool
+    ensures { result ≡ is_lower_hex byte }
+{
+    (48 <= byte && byte <= 57) || (97 <= byte && byte <= 102)
+}
+
+/// Whether all these bytes are lower-case hexadecimal digits.
+pub fn are_lower_hex(bytes: &[u8]) -> bool
+    ensures { result ≡ list_all is_lower_hex bytes.now }
+{
+    bytes.iter().all(|byte| is_lower_hex_digit(*byte))
+}
+
+fn digit_value(byte: u8) -> u64
+    requires { is_lower_hex byte ≡ true }
+    ensures value { result ≡ hex_digit byte }
+    ensures small { result < 16 }
+{
+    if byte <= 57 {
+        u64::from(byte - 48)
+    } else {
+        u64::from(byte - 87)
+    }
+}
+
+/// Whether the text is `0x` and 1 to 16 digits.
+fn is_number_in_hex(text: &[u8]) -> bool
+    ensures { result ≡ is_hex_number text.now }
+{
+    text.len() >= 3
+        && text.len() <= 18
+        && text[0] == 48
+        && text[1] == 120
+        && are_lower_hex(&text[2..])
+}
+
+#[tactic(auto, using(crate::proofs::Digits::at_index, crate::proofs::Digits::digit_fits, crate::proofs::Digits::value_step, crate::proofs::Digits::value_bound))]
+fn value_of_digits(digits: &[u8]) -> u64
+    requires digits { list_all is_lower_hex digits.now ≡ true }
+    requires short { length digits.now < 17 }
+    ensures { result ≡ hex_value 0 digits.now }
+{
+    let mut value: u64 = 0;
+    for byte in digits {
+        value = value * 16 + digit_value(*byte);
+    }
+    value
+}
+
+#[tactic(auto, unfolding(crate::specs::Numbers::hex_number))]
+fn number_in_hex(text: &[u8]) -> Result<u64, Refusal>
+    ensures { Gives result (hex_number text.now) }
+{
+    if is_number_in_hex(text) {
+        Ok(value_of_digits(&text[2..]))
+    } else {
+        Err(Refusal::NoScript)
+    }
+}
+
+impl FromTree for u64 {
+    ghost reads = { number_of };
+
+    fn from_tree(_alloc: Global, value: &Value) -> Result<u64, Refusal> {
+        match value {
+            Value::Number(number) => number.as_u64().ok_or(Refusal::NoScript),
+            Value::String(text) => number_in_hex(text.as_bytes()),
+            _ => Err(Refusal::NoScript),
+        }
+    }
+}
+
+impl FromTree for u32 {
+    ghost reads = { u32_of };
+
+    fn from_tree(alloc: Global, value: &Value) -> Result<u32, Refusal> {
+        let number = u64::from_tree(alloc, value)?;
+        if number > 0xffff_ffff {
+            return Err(Refusal::NoScript);
+        }
+        Ok(number as u32)
+    }
+}
+
+impl FromTree for u16 {
+    ghost reads = { u16_of };
+
+    fn from_tree(alloc: Global, value: &Value) -> Result<u16, Refusal> {
+        let number = u64::from_tree(alloc, value)?;
+        if number > 0xffff {
+            return Err(Refusal::NoScript);
+        }
+        Ok(number as u16)
+    }
+}

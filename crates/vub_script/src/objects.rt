@@ -1,0 +1,57 @@
+ghost use Rattle.std.specs.Prelude.{◌≡◌, option_map};
+ghost use Rattle.serde_json.specs.View.{view, members_view};
+ghost use Rattle.vub_script.specs.Reading.{Gives};
+ghost use Rattle.vub_script.specs.Objects.{lone_member, object_form, object_of};
+
+use crate::draft::ObjectDraft;
+use crate::refusal::Refusal;
+use crate::tree::FromTree;
+use serde_json::{Map, Value};
+use std::alloc::Global;
+use vub_base::Bytes;
+
+/// The only member, where there is one and no other.
+fn lone_member_of(map: &Map<String, Value>) -> Option<(&str, &Value)>
+    ensures { option_map (λ p. (p.0.now, view p.1.now)) result
+        ≡ lone_member (members_view map.now.entries) }
+{
+    if map.len() != 1 {
+        return None;
+    }
+    match map.first_key_value() {
+        Some((key, value)) => Some((key.as_str(), value)),
+        None => None,
+    }
+}
+
+fn object_at(alloc: Global, key: &str, value: &Value) -> Result<ObjectDraft, Refusal>
+    ensures { Gives result (object_form key.now (view value.now)) }
+{
+    if key == "event" {
+        let flags = u32::from_tree(alloc, value)?;
+        Ok(ObjectDraft::Event { flags })
+    } else if key == "bytes" {
+        let length = u64::from_tree(alloc, value)?;
+        Ok(ObjectDraft::Zeros { length })
+    } else if key == "hex" {
+        let bytes = Bytes::from_tree(alloc, value)?;
+        Ok(ObjectDraft::Content(bytes))
+    } else {
+        Err(Refusal::NoScript)
+    }
+}
+
+impl FromTree for ObjectDraft {
+    ghost reads = { object_of };
+
+    #[tactic(auto, unfolding(crate::specs::Objects::object_of))]
+    fn from_tree(alloc: Global, value: &Value) -> Result<ObjectDraft, Refusal> {
+        let Value::Object(map) = value else {
+            return Err(Refusal::NoScript);
+        };
+        match lone_member_of(map) {
+            Some((key, inner)) => object_at(alloc, key, inner),
+            None => Err(Refusal::NoScript),
+        }
+    }
+}

@@ -1,0 +1,87 @@
+ghost use Rattle.std.specs.Prelude.{◌≡◌, map};
+ghost use Rattle.serde_json.specs.View.{view};
+ghost use Rattle.vub_script.specs.Reading.{Gives};
+ghost use Rattle.vub_script.specs.Rings.{info_form, info_of, ring_fields, ring_of, are_served_rings};
+
+use crate::keys::is_in_ring_form;
+use crate::refusal::Refusal;
+use crate::tree::{FromTree, part_given};
+use serde_json::Value;
+use std::alloc::Global;
+use vub_model::{GivenRing, Info};
+
+fn info_at(alloc: Global, list: &[Value]) -> Result<Info, Refusal>
+    ensures { Gives result (info_form (map view list.now)) }
+{
+    match list {
+        [desc, avail, used] => {
+            let desc = u64::from_tree(alloc, desc)?;
+            let avail = u64::from_tree(alloc, avail)?;
+            let used = u64::from_tree(alloc, used)?;
+            Ok(Info { desc, avail, used })
+        }
+        _ => Err(Refusal::NoScript),
+    }
+}
+
+impl FromTree for Info {
+    ghost reads = { info_of };
+
+    #[tactic(auto, using(crate::proofs::Trees::items_listed), unfolding(crate::specs::Rings::info_of))]
+    fn from_tree(alloc: Global, value: &Value) -> Result<Info, Refusal> {
+        match value {
+            Value::Array(list) => info_at(alloc, list),
+            _ => Err(Refusal::NoScript),
+        }
+    }
+}
+
+#[tactic(auto, unfolding(crate::specs::Rings::ring_fields))]
+fn ring_fields_from(alloc: Global, value: &Value) -> Result<GivenRing, Refusal>
+    ensures { Gives result (ring_fields (view value.now)) }
+{
+    let queue = part_given(alloc, value.get("queue"))?;
+    let size = part_given(alloc, value.get("size"))?;
+    let info = part_given(alloc, value.get("info"))?;
+    let base = part_given(alloc, value.get("base"))?;
+    let next_used = part_given(alloc, value.get("next_used"))?;
+    let kick = part_given(alloc, value.get("kick"))?;
+    let call = part_given(alloc, value.get("call"))?;
+    let ready = part_given(alloc, value.get("ready"))?;
+    let enabled = part_given(alloc, value.get("enabled"))?;
+    Ok(GivenRing {
+        queue,
+        size,
+        info,
+        base,
+        next_used,
+        kick,
+        call,
+        ready,
+        enabled,
+    })
+}
+
+impl FromTree for GivenRing {
+    ghost reads = { ring_of };
+
+    #[tactic(auto, unfolding(crate::specs::Rings::ring_of))]
+    fn from_tree(alloc: Global, value: &Value) -> Result<GivenRing, Refusal> {
+        if is_in_ring_form(value) {
+            ring_fields_from(alloc, value)
+        } else {
+            Err(Refusal::NoScript)
+        }
+    }
+}
+
+/// Whether the machine has all these rings: it has the one of queue 0.
+pub fn are_rings_served(rings: &[GivenRing]) -> bool
+    ensures { result ≡ are_served_rings rings.now }
+{
+    match rings {
+        [] => true,
+        [ring] => ring.queue == 0,
+        _ => false,
+    }
+}

@@ -1,0 +1,83 @@
+ghost use Rattle.serde_json.specs.View.{view};
+ghost use Rattle.vub_script.specs.Reading.{Gives};
+ghost use Rattle.vub_script.specs.Draft.{device_of, fields_of, draft_of_tree};
+
+use crate::device_form::DeviceForm;
+use crate::draft::Draft;
+use crate::keys::is_in_form;
+use crate::refusal::Refusal;
+use crate::rings::are_rings_served;
+use crate::service_form::ServiceForm;
+use crate::tree::part_or;
+use serde_json::Value;
+use std::alloc::Global;
+use vub_base::{Bytes, Listed};
+
+/// The features that a device offers where the script does not say: VIRTIO_F_VERSION_1 (bit 32),
+/// VHOST_USER_F_PROTOCOL_FEATURES (30), VIRTIO_RING_F_EVENT_IDX (29) and VHOST_F_LOG_ALL (26).
+const FEATURES: u64 = 0x1_6400_0000;
+
+/// The protocol features that a device offers where the script does not say: VHOST_USER_PROTOCOL_F_LOG_SHMFD (bit 1),
+/// VHOST_USER_PROTOCOL_F_REPLY_ACK (3) and VHOST_USER_PROTOCOL_F_CONFIG (9).
+const PROTOCOL_FEATURES: u64 = 0x20a;
+
+#[tactic(auto, unfolding(crate::specs::Draft::device_of))]
+fn device_from(alloc: Global, value: &Value) -> Result<DeviceForm, Refusal>
+    ensures { Gives result (device_of (view value.now)) }
+{
+    let max_size = part_or(alloc, value.get("max_size"), 256)?;
+    let mut masks: Listed<u64> = Listed::new(alloc);
+    masks.push(0xffff_ffff)?;
+    Ok(DeviceForm {
+        queues: 1,
+        max_size,
+        masks,
+        features: FEATURES,
+        protocol: PROTOCOL_FEATURES,
+        config: Bytes::new(alloc),
+        pages: false,
+        exits: Listed::new(alloc),
+        refuse: Listed::new(alloc),
+    })
+}
+
+#[tactic(auto, unfolding(crate::specs::Draft::fields_of))]
+fn fields_from(alloc: Global, value: &Value) -> Result<Draft, Refusal>
+    ensures { Gives result (fields_of (view value.now)) }
+{
+    let objects = part_or(alloc, value.get("objects"), Listed::new(alloc))?;
+    let regions = part_or(alloc, value.get("regions"), Listed::new(alloc))?;
+    let rings = part_or(alloc, value.get("rings"), Listed::new(alloc))?;
+    let guest = part_or(alloc, value.get("guest"), Listed::new(alloc))?;
+    let device = device_from(alloc, value)?;
+    let listed = part_or(alloc, value.get("schedule"), Listed::new(alloc))?;
+    let rounds = part_or(alloc, value.get("rounds"), 0)?;
+    Ok(Draft {
+        objects,
+        regions,
+        rings,
+        guest,
+        device,
+        service: ServiceForm::Echo,
+        listed,
+        rounds,
+    })
+}
+
+/// What a tree says, where it is in the grammar.
+///
+/// # Errors
+/// [`Refusal::NoScript`] exactly where the tree is not in the grammar, and want of memory.
+#[tactic(auto, unfolding(crate::specs::Draft::draft_of_tree))]
+pub fn draft_from(alloc: Global, value: &Value) -> Result<Draft, Refusal>
+    ensures { Gives result (draft_of_tree (view value.now)) }
+{
+    if !is_in_form(value) {
+        return Err(Refusal::NoScript);
+    }
+    let draft = fields_from(alloc, value)?;
+    if !are_rings_served(draft.rings.as_slice()) {
+        return Err(Refusal::NoScript);
+    }
+    Ok(draft)
+}
