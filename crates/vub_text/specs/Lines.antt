@@ -1,0 +1,58 @@
+-- The lines of a text. Numbers are decimal, and each line ends with a newline byte.
+use Rattle.std.specs.Prelude.{ℕ, Bool, true, false, List, ◌++◌, length, codes, decimal, count_by}
+use Rattle.vub_proto.specs.declared.used.Used.{Used}
+use Rattle.vub_model.specs.declared.label.Label.{Label}
+use Rattle.vub_model.specs.declared.label.Label.TheVariants.{Pass, Guest, Poll, Event, Sweep, Take, Serve, Put}
+use Rattle.vub_model.specs.declared.records.Take as records
+use Rattle.vub_model.specs.declared.records.Stop.{Stop}
+use Rattle.vub_model.specs.declared.records.Count.{Count}
+use Rattle.vub_model.specs.declared.records.Span.{Span}
+use Rattle.vub_text.specs.Words.{hex_text, yes_no, cause_text}
+
+-- a turn is played unless its party passed
+abbrev pub is_played : Label → Bool
+is_played Pass = false
+is_played Guest = true
+is_played (Poll o) = true
+is_played Event = true
+is_played Sweep = true
+is_played Take = true
+is_played Serve = true
+is_played Put = true
+
+-- how many turns there were and how many were played, and whether all is at rest
+unfoldable pub turns_line : List Label → Bool → List ℕ
+turns_line labels rest =
+    codes "turns " ++ decimal (length labels) ++ codes " played " ++ decimal (count_by is_played labels) ++ codes " rest " ++ yes_no rest ++ codes "\n"
+
+abbrev pub take_place : records.Take → List ℕ
+take_place t = codes "take " ++ decimal t.queue ++ codes " " ++ decimal t.epoch ++ codes " " ++ decimal t.number ++ codes " head " ++ decimal t.head
+
+abbrev pub take_content : records.Take → List ℕ
+take_content t = codes " request " ++ hex_text t.request ++ codes " room " ++ decimal t.room ++ codes "\n"
+
+-- an entry that was taken: queue, epoch, number and head, then the request's bytes and the room for the reply
+unfoldable pub take_line : records.Take → List ℕ
+take_line t = take_place t ++ take_content t
+
+abbrev pub use_place : Used → List ℕ
+use_place u = codes "use " ++ decimal u.queue ++ codes " " ++ decimal u.epoch ++ codes " " ++ decimal u.number ++ codes " head " ++ decimal u.head
+
+abbrev pub use_content : Used → List ℕ
+use_content u = codes " length " ++ decimal (length u.reply) ++ codes " reply " ++ hex_text u.reply ++ codes "\n"
+
+-- an entry that was used: queue, epoch, number and head, then the reply's length and bytes
+unfoldable pub use_line : Used → List ℕ
+use_line u = use_place u ++ use_content u
+
+-- a worker that has stopped, and why
+unfoldable pub stop_line : Stop → List ℕ
+stop_line s = codes "stop " ++ decimal s.worker ++ codes " " ++ cause_text s.cause ++ codes "\n"
+
+-- an event object and its count
+unfoldable pub count_line : Count → List ℕ
+count_line c = codes "count " ++ decimal c.object ++ codes " " ++ decimal c.count ++ codes "\n"
+
+-- bytes that were written: object, place of the first, and the bytes
+unfoldable pub write_line : Span → List ℕ
+write_line s = codes "write " ++ decimal s.object ++ codes " " ++ decimal s.offset ++ codes " " ++ hex_text s.bytes ++ codes "\n"
