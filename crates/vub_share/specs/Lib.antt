@@ -1,0 +1,4 @@
+pub mod Statuses
+pub mod Device
+pub mod Endings
+pub mod Inputs

@@ -1,0 +1,73 @@
+ghost use Rattle.std.specs.Prelude.{◌≡◌};
+
+use std::alloc::Global;
+use vub_base::OutOfMemory;
+use vub_proto::VhostUserBackendMut;
+use vub_script::DeviceForm;
+
+/// The device of a script: its constants are what the script says of them.
+#[derive(Debug, Drop)]
+pub struct ScriptDevice {
+    form: DeviceForm,
+    refusals: u64,
+}
+
+impl ScriptDevice {
+    /// The device with these constants, which has refused no call yet.
+    pub fn new(form: DeviceForm) -> ScriptDevice
+        ensures form { result.form ≡ form }
+        ensures refusals { result.refusals ≡ 0 }
+    {
+        ScriptDevice { form, refusals: 0 }
+    }
+}
+
+impl VhostUserBackendMut for ScriptDevice {
+    ghost use Rattle.vub_share.specs.Device.{exit_at};
+
+    ghost queue_count = { λ d. d.form.queues };
+
+    ghost greatest_size = { λ d. d.form.max_size };
+
+    ghost offered = { λ d. d.form.features };
+
+    ghost protocol_offered = { λ d. d.form.protocol };
+
+    ghost masks = { λ d. d.form.masks };
+
+    ghost exit_of = { λ d worker. exit_at d.form.exits worker };
+
+    ghost refusal_count = { λ d. d.refusals };
+
+    fn num_queues(&self) -> usize {
+        self.form.queues as usize
+    }
+
+    fn max_queue_size(&self) -> usize {
+        self.form.max_size as usize
+    }
+
+    fn features(&self) -> u64 {
+        self.form.features
+    }
+
+    fn protocol_features(&self) -> u64 {
+        self.form.protocol
+    }
+
+    fn queues_per_thread(&self, alloc: Global) -> Result<Vec<u64>, OutOfMemory> {
+        let masks = Vec::from_slice(alloc, self.form.masks.as_slice())?;
+        Ok(masks)
+    }
+
+    fn exit_event(&self, worker: usize) -> Option<u32> {
+        match self.form.exits.as_slice().get(worker) {
+            Some(exit) => *exit,
+            None => None,
+        }
+    }
+
+    fn refusals(&self) -> u64 {
+        self.refusals
+    }
+}
