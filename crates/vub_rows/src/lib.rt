@@ -1,0 +1,14 @@
+//! Worked scripts, each with the text that it must print or the status that it must end with, played through the whole
+//! program over a source and a sink in memory.
+#![tactic(auto)]
+
+#[cfg(test)]
+mod base;
+#[cfg(test)]
+mod faults;
+#[cfg(test)]
+mod hostile;
+#[cfg(test)]
+mod playing;
+#[cfg(test)]
+mod runs;
