@@ -8,6 +8,7 @@ use Rattle.vub_mem.specs.Memory.{Guest}
 use Rattle.vub_mem.specs.Place.{holds, region_of, covers, content_of, byte_at, byte_in, bytes_at}
 use Rattle.vub_mem.specs.Sound.{IsApart, IsBacked}
 use Rattle.vub_mem.specs.Found.{IsFound}
+use Rattle.vub_mem.specs.PlaceAt.{RunsOn, place_at, place_in}
 use Rattle.vub_mem.proofs.Ranges.{find_all, covers_at, length-bytes_at, get_or-bytes_at, bytes_at_more, bytes_at_none}
 
 not_held : (q : Region) (b : ℕ) → q.start + q.len ≤ b → holds q b ≡ false
@@ -100,3 +101,13 @@ pub region_backed : (g : Guest) (a : ℕ) (r : Region) (bs : List ℕ) → AllBy
 region_backed g a r bs all f e =
     let inside : r.offset + r.len ≤ length (content_of g.contents r.object) = find_all (λ r. IsBacked g.contents r) g.regions a r all f.is in
     omega (arith, ap length e)
+
+-- where the addresses behind one in its region lie
+pub runs_on : (rs : List Region) (a : ℕ) (r : Region) → IsApart rs → IsFound rs a r → RunsOn rs a (place_in a r)
+runs_on rs a r apart f i below =
+    let low : r.start ≤ a + i = omega (arith, f.low) in
+    let high : a + i - r.start < r.len = omega (arith, f.low, f.high) in
+    let found : region_of rs (a + i) ≡ Some r = same_region rs a (a + i) r apart f.is (and_from (leb r.start (a + i)) (ltb (a + i - r.start) r.len) (le-leb r.start (a + i) low) (lt-ltb (a + i - r.start) r.len high)) in
+    let up : r.offset + (a + i - r.start) ≡ r.offset + (a - r.start) + i = omega (arith, f.low) in
+    let down : r.len - (a + i - r.start) ≡ r.len - (a - r.start) - i = omega (arith, f.low, f.high) in
+    rw (found, up, down) refl

@@ -43,7 +43,7 @@ impl<L: DirtyLog> Model for GuestMemory<L> {
 
 impl<L: DirtyLog> GuestMemory<L> {
     ghost use Rattle.vub_mem.specs.Place.{content_of, is_numbered, covers, bytes_at, number_at, store_at, write_at};
-    ghost use Rattle.vub_mem.specs.PlaceAt.{place_at};
+    ghost use Rattle.vub_mem.specs.PlaceAt.{place_at, RunsOn};
     ghost use Rattle.vub_mem.specs.Found.{IsLocated};
     ghost use Rattle.vub_mem.specs.Sound.{IsApart, IsBounded};
     ghost use Rattle.vub_mem.specs.Answers.{ReadsBytes};
@@ -248,6 +248,8 @@ impl<L: DirtyLog> GuestMemory<L> {
     pub fn place_of(&self, addr: u64) -> Option<Place>
         ensures value { result ≡ place_at self.now.guest.regions addr }
         ensures some { IfSome result (λ p. 0 < p.left) }
+        ensures run { IfSome result (RunsOn self.now.guest.regions addr) }
+        ensures ends { IfSome result (λ p. addr + p.left < 2 ^ 64) }
     {
         place_in(&self.regions, addr)
     }

@@ -5,7 +5,7 @@ ghost use Rattle.std.specs.Int.{w16, w32, w64};
 ghost use Rattle.std.specs.Option.{option_copied};
 ghost use Rattle.vub_mem.specs.Place.{is_numbered, region_of, covers, content_of, byte_at, bytes_at, number_at, with_bytes, write_at};
 ghost use Rattle.vub_mem.specs.Sound.{IsApart, IsBounded, IsSound};
-ghost use Rattle.vub_mem.specs.PlaceAt.{place_at};
+ghost use Rattle.vub_mem.specs.PlaceAt.{place_at, RunsOn};
 ghost use Rattle.vub_mem.specs.Found.{IsFound, IsLocated, IsPlace};
 
 use crate::content::Content;
@@ -32,10 +32,14 @@ pub(crate) fn region_at(regions: &[Region], addr: u64) -> Option<&Region>
 }
 
 /// Where an address lies, if it lies in a region.
+#[tactic(auto, using(crate::proofs::Chunks::runs_on))]
 pub(crate) fn place_in(regions: &[Region], addr: u64) -> Option<Place>
-    requires { AllByRecursion IsBounded regions.now }
+    requires bounded { AllByRecursion IsBounded regions.now }
+    requires apart { IsApart regions.now }
     ensures value { result ≡ place_at regions.now addr }
     ensures some { IfSome result (λ p. 0 < p.left) }
+    ensures run { IfSome result (RunsOn regions.now addr) }
+    ensures ends { IfSome result (λ p. addr + p.left < 2 ^ 64) }
 {
     match region_at(regions, addr) {
         None => None,

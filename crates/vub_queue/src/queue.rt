@@ -76,6 +76,22 @@ impl Queue {
         })
     }
 
+    /// Another queue in the same state. What is done to one does not change the other.
+    pub fn copy(&self) -> Queue
+        ensures { result ≡ self.now }
+    {
+        Queue {
+            max: self.max,
+            size: self.size,
+            ready: self.ready,
+            event_idx: self.event_idx,
+            addresses: self.addresses,
+            next_avail: self.next_avail,
+            next_used: self.next_used,
+            told: self.told,
+        }
+    }
+
     /// How many descriptors the table has, and how many slots each ring.
     pub fn size(&self) -> u16
         ensures value { result ≡ self.now.size }
