@@ -6,3 +6,4 @@ pub mod HostTable
 pub mod InterestList
 pub mod Laws
 pub mod Place
+pub mod Plan

@@ -3,7 +3,8 @@ ghost use Rattle.vub_base.specs.Told.{Told};
 ghost use Rattle.vub_event.specs.Errors.{RefusesBy};
 ghost use Rattle.vub_event.specs.Faults.{CountsFaults};
 ghost use Rattle.vub_event.specs.HostTable.{empty_table, event_at, members_at};
-ghost use Rattle.vub_event.specs.HostCalls.{FirstReadyCall, ReadyCall};
+ghost use Rattle.vub_event.specs.HostCalls.{member_for, CreateEventCall, CreateListCall, SignalCall, ConsumeCall, AddCall, ModifyCall, DeleteCall, ListenCall, UnlistenCall, ConsumeAsCall, FirstReadyCall, ReadyCall, ReadyManyCall, ClaimCall, release_after, hang_up_after, close_after};
+ghost use Rattle.vub_event.specs.Plan.{GoesByPlan};
 
 use crate::error::HostError;
 use crate::event::Event;
@@ -76,28 +77,48 @@ impl Host for MemHost {
         self.plan.faults
     }
 
-    fn create_event(&mut self, _alloc: Global, flags: u32) -> Result<u32, HostError> {
+    fn create_event(&mut self, _alloc: Global, flags: u32) -> Result<u32, HostError>
+        ensures faults { CountsFaults self.old.plan.faults self.new.plan.faults (self.old.plan.calls.items ≡ []) (self.new.plan.calls.items ≡ []) result }
+        ensures refusals { RefusesBy result (HostError.Failed ∷ HostError.EINVAL ∷ HostError.OutOfMemory ∷ []) }
+        ensures table { CreateEventCall flags result self.old.table self.new.table }
+        ensures plan { GoesByPlan self.old.plan self.new.plan result }
+    {
         if self.plan.strikes() {
             return Err(HostError::Failed);
         }
         self.table.create_event(flags)
     }
 
-    fn create_list(&mut self, alloc: Global) -> Result<u32, HostError> {
+    fn create_list(&mut self, alloc: Global) -> Result<u32, HostError>
+        ensures faults { CountsFaults self.old.plan.faults self.new.plan.faults (self.old.plan.calls.items ≡ []) (self.new.plan.calls.items ≡ []) result }
+        ensures refusals { RefusesBy result (HostError.Failed ∷ HostError.OutOfMemory ∷ []) }
+        ensures table { CreateListCall result self.old.table self.new.table }
+        ensures plan { GoesByPlan self.old.plan self.new.plan result }
+    {
         if self.plan.strikes() {
             return Err(HostError::Failed);
         }
         self.table.create_list(alloc)
     }
 
-    fn signal(&mut self, object: u32, value: u64) -> Result<(), HostError> {
+    fn signal(&mut self, object: u32, value: u64) -> Result<(), HostError>
+        ensures faults { CountsFaults self.old.plan.faults self.new.plan.faults (self.old.plan.calls.items ≡ []) (self.new.plan.calls.items ≡ []) result }
+        ensures refusals { RefusesBy result (HostError.Failed ∷ HostError.WouldBlock ∷ HostError.EINVAL ∷ HostError.EBADF ∷ []) }
+        ensures table { SignalCall object value result self.old.table self.new.table }
+        ensures plan { GoesByPlan self.old.plan self.new.plan result }
+    {
         if self.plan.strikes() {
             return Err(HostError::Failed);
         }
         self.table.signal(object, value)
     }
 
-    fn consume(&mut self, object: u32) -> Result<u64, HostError> {
+    fn consume(&mut self, object: u32) -> Result<u64, HostError>
+        ensures faults { CountsFaults self.old.plan.faults self.new.plan.faults (self.old.plan.calls.items ≡ []) (self.new.plan.calls.items ≡ []) result }
+        ensures refusals { RefusesBy result (HostError.Failed ∷ HostError.WouldBlock ∷ HostError.EBADF ∷ []) }
+        ensures table { ConsumeCall object result self.old.table self.new.table }
+        ensures plan { GoesByPlan self.old.plan self.new.plan result }
+    {
         if self.plan.strikes() {
             return Err(HostError::Failed);
         }
@@ -111,27 +132,36 @@ impl Host for MemHost {
         object: u32,
         set: EventSet,
         token: u64,
-    ) -> Result<(), HostError> {
+    ) -> Result<(), HostError>
+        ensures faults { CountsFaults self.old.plan.faults self.new.plan.faults (self.old.plan.calls.items ≡ []) (self.new.plan.calls.items ≡ []) result }
+        ensures refusals { RefusesBy result (HostError.Failed ∷ HostError.EINVAL ∷ HostError.EEXIST ∷ HostError.EBADF ∷ HostError.OutOfMemory ∷ []) }
+        ensures table { AddCall list (member_for object set token) result self.old.table self.new.table }
+        ensures plan { GoesByPlan self.old.plan self.new.plan result }
+    {
         if self.plan.strikes() {
             return Err(HostError::Failed);
         }
         self.table.add(list, Member { object, set, token })
     }
 
-    fn modify(
-        &mut self,
-        list: u32,
-        object: u32,
-        set: EventSet,
-        token: u64,
-    ) -> Result<(), HostError> {
+    fn modify(&mut self, list: u32, object: u32, set: EventSet, token: u64) -> Result<(), HostError>
+        ensures faults { CountsFaults self.old.plan.faults self.new.plan.faults (self.old.plan.calls.items ≡ []) (self.new.plan.calls.items ≡ []) result }
+        ensures refusals { RefusesBy result (HostError.Failed ∷ HostError.EINVAL ∷ HostError.ENOENT ∷ HostError.EBADF ∷ []) }
+        ensures table { ModifyCall list (member_for object set token) result self.old.table self.new.table }
+        ensures plan { GoesByPlan self.old.plan self.new.plan result }
+    {
         if self.plan.strikes() {
             return Err(HostError::Failed);
         }
         self.table.modify(list, Member { object, set, token })
     }
 
-    fn delete(&mut self, list: u32, object: u32) -> Result<(), HostError> {
+    fn delete(&mut self, list: u32, object: u32) -> Result<(), HostError>
+        ensures faults { CountsFaults self.old.plan.faults self.new.plan.faults (self.old.plan.calls.items ≡ []) (self.new.plan.calls.items ≡ []) result }
+        ensures refusals { RefusesBy result (HostError.Failed ∷ HostError.ENOENT ∷ HostError.EBADF ∷ []) }
+        ensures table { DeleteCall list object result self.old.table self.new.table }
+        ensures plan { GoesByPlan self.old.plan self.new.plan result }
+    {
         if self.plan.strikes() {
             return Err(HostError::Failed);
         }
@@ -144,21 +174,36 @@ impl Host for MemHost {
         list: u32,
         object: u32,
         token: u64,
-    ) -> Result<(), HostError> {
+    ) -> Result<(), HostError>
+        ensures faults { CountsFaults self.old.plan.faults self.new.plan.faults (self.old.plan.calls.items ≡ []) (self.new.plan.calls.items ≡ []) result }
+        ensures refusals { RefusesBy result (HostError.Failed ∷ HostError.EEXIST ∷ HostError.EBADF ∷ HostError.OutOfMemory ∷ []) }
+        ensures table { ListenCall list object token result self.old.table self.new.table }
+        ensures plan { GoesByPlan self.old.plan self.new.plan result }
+    {
         if self.plan.strikes() {
             return Err(HostError::Failed);
         }
         self.table.listen(list, object, token)
     }
 
-    fn unlisten(&mut self, list: u32, object: u32, above: u64) -> Result<(), HostError> {
+    fn unlisten(&mut self, list: u32, object: u32, above: u64) -> Result<(), HostError>
+        ensures faults { CountsFaults self.old.plan.faults self.new.plan.faults (self.old.plan.calls.items ≡ []) (self.new.plan.calls.items ≡ []) result }
+        ensures refusals { RefusesBy result (HostError.Failed ∷ HostError.ENOENT ∷ HostError.EBADF ∷ []) }
+        ensures table { UnlistenCall list object above result self.old.table self.new.table }
+        ensures plan { GoesByPlan self.old.plan self.new.plan result }
+    {
         if self.plan.strikes() {
             return Err(HostError::Failed);
         }
         self.table.unlisten(list, object, above)
     }
 
-    fn consume_as(&mut self, list: u32, object: u32, token: u64) -> Result<bool, HostError> {
+    fn consume_as(&mut self, list: u32, object: u32, token: u64) -> Result<bool, HostError>
+        ensures faults { CountsFaults self.old.plan.faults self.new.plan.faults (self.old.plan.calls.items ≡ []) (self.new.plan.calls.items ≡ []) result }
+        ensures refusals { RefusesBy result (HostError.Failed ∷ HostError.EBADF ∷ []) }
+        ensures table { ConsumeAsCall list object token result self.old.table self.new.table }
+        ensures plan { GoesByPlan self.old.plan self.new.plan result }
+    {
         if self.plan.strikes() {
             return Err(HostError::Failed);
         }
@@ -170,6 +215,7 @@ impl Host for MemHost {
         ensures refusals { RefusesBy result (HostError.Failed ∷ HostError.EBADF ∷ []) }
         ensures table { ReadyCall list result self.old.table self.new.table }
         ensures least { FirstReadyCall list result self.old.table self.new.table }
+        ensures plan { GoesByPlan self.old.plan self.new.plan result }
     {
         if self.plan.strikes() {
             return Err(HostError::Failed);
@@ -177,34 +223,54 @@ impl Host for MemHost {
         self.table.ready(list)
     }
 
-    fn ready_many(
-        &mut self,
-        alloc: Global,
-        list: u32,
-        most: usize,
-    ) -> Result<Vec<Ready>, HostError> {
+    fn ready_many(&mut self, alloc: Global, list: u32, most: usize) -> Result<Vec<Ready>, HostError>
+        ensures faults { CountsFaults self.old.plan.faults self.new.plan.faults (self.old.plan.calls.items ≡ []) (self.new.plan.calls.items ≡ []) result }
+        ensures refusals { RefusesBy result (HostError.Failed ∷ HostError.EBADF ∷ HostError.OutOfMemory ∷ []) }
+        ensures table { ReadyManyCall list most result self.old.table self.new.table }
+        ensures plan { GoesByPlan self.old.plan self.new.plan result }
+    {
         if self.plan.strikes() {
             return Err(HostError::Failed);
         }
         self.table.ready_many(alloc, list, most)
     }
 
-    fn claim(&mut self, object: u32, queue: u32) -> Result<(), HostError> {
+    fn claim(&mut self, object: u32, queue: u32) -> Result<(), HostError>
+        ensures faults { CountsFaults self.old.plan.faults self.new.plan.faults (self.old.plan.calls.items ≡ []) (self.new.plan.calls.items ≡ []) result }
+        ensures refusals { RefusesBy result (HostError.Failed ∷ HostError.EBADF ∷ HostError.Held ∷ []) }
+        ensures table { ClaimCall object queue result self.old.table self.new.table }
+        ensures plan { GoesByPlan self.old.plan self.new.plan result }
+    {
         if self.plan.strikes() {
             return Err(HostError::Failed);
         }
         self.table.claim(object, queue)
     }
 
-    fn release(&mut self, object: u32) {
+    fn release(&mut self, object: u32)
+        ensures faults { self.new.plan.faults ≡ self.old.plan.faults }
+        ensures still { self.old.plan.calls.items ≡ [] → self.new.plan.calls.items ≡ [] }
+        ensures table { self.new.table ≡ release_after self.old.table object }
+        ensures plan { self.new.plan ≡ self.old.plan }
+    {
         self.table.release(object);
     }
 
-    fn hang_up(&mut self, object: u32) {
+    fn hang_up(&mut self, object: u32)
+        ensures faults { self.new.plan.faults ≡ self.old.plan.faults }
+        ensures still { self.old.plan.calls.items ≡ [] → self.new.plan.calls.items ≡ [] }
+        ensures table { self.new.table ≡ hang_up_after self.old.table object }
+        ensures plan { self.new.plan ≡ self.old.plan }
+    {
         self.table.hang_up(object);
     }
 
-    fn close(&mut self, object: u32) {
+    fn close(&mut self, object: u32)
+        ensures faults { self.new.plan.faults ≡ self.old.plan.faults }
+        ensures still { self.old.plan.calls.items ≡ [] → self.new.plan.calls.items ≡ [] }
+        ensures table { self.new.table ≡ close_after self.old.table object }
+        ensures plan { self.new.plan ≡ self.old.plan }
+    {
         self.table.close(object);
     }
 }

@@ -102,7 +102,7 @@ fn queues_claim_and_listeners_listen(rt: HostRuntime) -> Result<(), Fail> {
     Ok(())
 }
 
-/// The answer of the call with this number, made of a host that has one list, with object 0 as a member.
+/// The answer of the call with this number, made of a prepared host. None of them needs another one to have been made.
 fn call<H: Host>(alloc: Global, host: &mut H, call: u32) -> u8 {
     match call {
         0 => number_of(host.create_event(alloc, 0)),
@@ -112,23 +112,28 @@ fn call<H: Host>(alloc: Global, host: &mut H, call: u32) -> u8 {
         4 => number_of(host.add(alloc, 0, 1, EventSet::IN, 5)),
         5 => number_of(host.modify(0, 0, EventSet::IN, 6)),
         6 => number_of(host.delete(0, 0)),
-        7 => number_of(host.listen(alloc, 0, 1, 5)),
-        8 => number_of(host.unlisten(0, 0, 1)),
+        7 => number_of(host.listen(alloc, 0, 2, 5)),
+        8 => number_of(host.unlisten(0, 3, 1)),
         9 => number_of(host.consume_as(0, 0, 5)),
         10 => number_of(host.ready(0)),
         11 => number_of(host.ready_many(alloc, 0, 1)),
-        _ => number_of(host.claim(1, 0)),
+        _ => number_of(host.claim(4, 0)),
     }
 }
 
-/// A host with one list, of which object 0, with a count of 2, is a member, and an object 1: five calls were made.
+/// How many calls prepare a host.
+const PREPARING: u64 = 9;
+
+/// A host with five objects, of which object 0 has a count of 2, and one list, of which objects 0 and 3 are members.
 fn prepared(alloc: Global, fails: &[u64]) -> Result<MemHost, HostError> {
     let mut host = MemHost::failing(alloc, Vec::from_slice(alloc, fails)?)?;
     let _list = host.create_list(alloc)?;
-    let object = host.create_event(alloc, 0)?;
-    let _other = host.create_event(alloc, 0)?;
-    host.signal(object, 2)?;
-    host.add(alloc, 0, object, EventSet::IN, 5)?;
+    for _object in 0..5 {
+        host.create_event(alloc, 0)?;
+    }
+    host.signal(0, 2)?;
+    host.add(alloc, 0, 0, EventSet::IN, 5)?;
+    host.add(alloc, 0, 3, EventSet::IN, 5)?;
     Ok(host)
 }
 
@@ -138,12 +143,25 @@ fn each_call_fails_where_it_is_to_fail(rt: HostRuntime) -> Result<(), Fail> {
         let mut sound = prepared(rt.alloc(), &[])?;
         assert_eq!(rt; call(rt.alloc(), &mut sound, number), 0);
         assert_eq!(rt; sound.faults(), 0);
-        let mut host = prepared(rt.alloc(), &[5, 7])?;
+        let mut host = prepared(rt.alloc(), &[PREPARING, PREPARING + 2])?;
         assert_eq!(rt; call(rt.alloc(), &mut host, number), 7);
         assert_eq!(rt; host.faults(), 1);
         assert_eq!(rt; call(rt.alloc(), &mut host, number), 0);
         assert_eq!(rt; call(rt.alloc(), &mut host, number), 7);
         assert_eq!(rt; host.faults(), 2);
+    }
+    Ok(())
+}
+
+#[test]
+fn each_fault_number_fails_one_call(rt: HostRuntime) -> Result<(), Fail> {
+    for fault in 0..13 {
+        let mut host = prepared(rt.alloc(), &[PREPARING + u64::from(fault)])?;
+        for number in 0..13 {
+            let answer = if number == fault { 7 } else { 0 };
+            assert_eq!(rt; call(rt.alloc(), &mut host, number), answer);
+        }
+        assert_eq!(rt; host.faults(), 1);
     }
     Ok(())
 }

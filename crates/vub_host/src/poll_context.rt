@@ -1,4 +1,5 @@
-ghost use Rattle.std.specs.Prelude.{◌≡◌, ◌∷◌, [], ◌==◌, ◌/◌, ◌^◌, ◌-◌, if◌then◌else◌, min, pos, negsuc};
+ghost use Rattle.std.specs.Prelude.{◌≡◌, ◌∷◌, [], ◌==◌, ◌/◌, ◌^◌, ◌-◌, ◌+◌, if◌then◌else◌, min, pos, negsuc, true, is_ok, IfOk, OnErr, ⊤};
+ghost use Rattle.std.specs.Borrow.{sem, follows_so};
 ghost use Rattle.std.specs.Duration.{as_nanos};
 ghost use Rattle.std.specs.Int.RustNames.{bit_or};
 ghost use Rattle.vub_base.specs.Told.{Told};
@@ -6,6 +7,7 @@ ghost use Rattle.vub_event.specs.Errors.{RefusesBy};
 ghost use Rattle.vub_event.specs.Faults.{CountsFaults};
 ghost use Rattle.vub_event.specs.HostCalls.{AddCall, ModifyCall, DeleteCall, member_for};
 ghost use Rattle.vub_host.specs.Calls.{MakesList, PollCall};
+ghost use mathlib.Core.Option.{none};
 
 use crate::poll_events::{EpollEvents, PollEvents};
 use crate::poll_token::PollToken;
@@ -170,6 +172,23 @@ impl<T: PollToken> EpollContext<T> {
         host.delete(self.list, object)
     }
 
+    /// Fills `events` with those of the first ready members by object number, at most 16.
+    fn fill<H: Host>(
+        &self,
+        alloc: Global,
+        host: &mut H,
+        events: &mut EpollEvents,
+    ) -> Result<(), HostError>
+        ensures faults { CountsFaults (H.fault_count host.old) (H.fault_count host.new) (H.never_fails host.old) (H.never_fails host.new) result }
+        ensures refusals { RefusesBy result (HostError.Failed ∷ HostError.EBADF ∷ HostError.OutOfMemory ∷ []) }
+        ensures err { OnErr result (events.new ≡ events.old) }
+        ensures table { Told (H.held host.old) (H.held host.new) (PollCall (λ _. events.new) self.now.list result) }
+    {
+        let ready = host.ready_many(alloc, self.list, 16)?;
+        events.fill(&ready);
+        Ok(())
+    }
+
     /// The events of the first ready members by object number, at most 16, which stand in `events`. It doesn't wait.
     ///
     /// # Errors
@@ -184,9 +203,8 @@ impl<T: PollToken> EpollContext<T> {
         ensures refusals { RefusesBy result (HostError.Failed ∷ HostError.EBADF ∷ HostError.OutOfMemory ∷ []) }
         ensures table { Told (H.held host.old) (H.held host.new) (PollCall (λ polled. polled.events.now) self.now.list result) }
     {
-        let ready = host.ready_many(alloc, self.list, 16)?;
-        events.fill(&ready);
-        Ok(PollEvents::new(events.as_slice()))
+        self.fill(alloc, host, events)?;
+        Ok(events.polled())
     }
 
     /// As [`EpollContext::wait`]: since nothing is waited for, the timeout has no part in it.
@@ -219,6 +237,9 @@ pub struct PollContext<T> {
 }
 
 impl<T: PollToken> PollContext<T> {
+    ghost use Rattle.vub_host.specs.contracts.poll_context.PollContext.{the_row};
+    ghost use Rattle.vub_host.specs.Lends.{KeepsMembers};
+
     /// A new context with no member.
     ///
     /// # Errors
@@ -226,6 +247,7 @@ impl<T: PollToken> PollContext<T> {
     pub fn new<H: Host>(alloc: Global, host: &mut H) -> Result<PollContext<T>, HostError>
         ensures faults { CountsFaults (H.fault_count host.old) (H.fault_count host.new) (H.never_fails host.old) (H.never_fails host.new) result }
         ensures refusals { RefusesBy result (HostError.Failed ∷ HostError.OutOfMemory ∷ []) }
+        ensures begins { IfOk result (λ poll. (poll.events ≡ []) × (poll.checks ≡ true) × (poll.hangups ≡ 0) × (poll.members ≡ 0)) }
         ensures table { Told (H.held host.old) (H.held host.new) (MakesList (λ poll. poll.context.list) result) }
     {
         let context = EpollContext::new(alloc, host)?;
@@ -261,6 +283,7 @@ impl<T: PollToken> PollContext<T> {
         ensures faults { CountsFaults (H.fault_count host.old) (H.fault_count host.new) (H.never_fails host.old) (H.never_fails host.new) result }
         ensures refusals { RefusesBy result (HostError.Failed ∷ HostError.EINVAL ∷ HostError.EEXIST ∷ HostError.EBADF ∷ HostError.OutOfMemory ∷ []) }
         ensures same { self.new.context ≡ self.old.context }
+        ensures counts { self.new ≡ (if is_ok result then record self.old { hangups = 0; members = min (self.old.members + 1) (2 ^ 64 - 1) } else self.old) }
         ensures table { Told (H.held host.old) (H.held host.new) (AddCall self.old.context.list (member_for object (record { 0 = 1 }) (T.raw_of token)) result) }
     {
         self.context.add(alloc, host, object, token)?;
@@ -286,6 +309,7 @@ impl<T: PollToken> PollContext<T> {
         ensures faults { CountsFaults (H.fault_count host.old) (H.fault_count host.new) (H.never_fails host.old) (H.never_fails host.new) result }
         ensures refusals { RefusesBy result (HostError.Failed ∷ HostError.EINVAL ∷ HostError.EEXIST ∷ HostError.EBADF ∷ HostError.OutOfMemory ∷ []) }
         ensures same { self.new.context ≡ self.old.context }
+        ensures counts { self.new ≡ (if is_ok result then record self.old { hangups = 0; members = min (self.old.members + 1) (2 ^ 64 - 1) } else self.old) }
         ensures table { Told (H.held host.old) (H.held host.new) (AddCall self.old.context.list (member_for object (record { 0 = events.0 }) (T.raw_of token)) result) }
     {
         self.context
@@ -324,12 +348,47 @@ impl<T: PollToken> PollContext<T> {
         ensures faults { CountsFaults (H.fault_count host.old) (H.fault_count host.new) (H.never_fails host.old) (H.never_fails host.new) result }
         ensures refusals { RefusesBy result (HostError.Failed ∷ HostError.ENOENT ∷ HostError.EBADF ∷ []) }
         ensures same { self.new.context ≡ self.old.context }
+        ensures counts { self.new ≡ (if is_ok result then record self.old { hangups = 0; members = self.old.members - 1 } else self.old) }
         ensures table { Told (H.held host.old) (H.held host.new) (DeleteCall self.old.context.list object result) }
     {
         self.context.delete(host, object)?;
         self.hangups = 0;
         self.members = self.members.saturating_sub(1);
         Ok(())
+    }
+
+    /// Takes in the events of the first ready members, and warns of a busy loop.
+    fn poll<H: Host, R: Log>(
+        &mut self,
+        alloc: Global,
+        host: &mut H,
+        log: &R,
+    ) -> Result<(), HostError>
+        ensures faults { CountsFaults (H.fault_count host.old) (H.fault_count host.new) (H.never_fails host.old) (H.never_fails host.new) result }
+        ensures refusals { RefusesBy result (HostError.Failed ∷ HostError.EBADF ∷ HostError.OutOfMemory ∷ []) }
+        ensures same { KeepsMembers self.old self.new }
+        ensures table { Told (H.held host.old) (H.held host.new) (PollCall (λ _. self.new.events) self.old.context.list result) }
+    {
+        self.context.fill(alloc, host, &mut self.events)?;
+        if self.checks {
+            let before = self.hangups;
+            let mut now = before;
+            for _hung_up in self.polled().iter_hungup() {
+                now = now.saturating_add(1);
+            }
+            self.hangups = now;
+            if before <= self.members && self.hangups > self.members {
+                warn!(log; "busy poll wait loop with hungup FDs detected");
+            }
+        }
+        Ok(())
+    }
+
+    /// The events that it holds, lent.
+    fn polled(&self) -> PollEvents<'_, T>
+        ensures { result.events.now ≡ self.now.events }
+    {
+        self.events.polled()
     }
 
     /// The events of the first ready members by object number, at most 16. It doesn't wait. It warns by `log` when the
@@ -343,21 +402,13 @@ impl<T: PollToken> PollContext<T> {
         host: &mut H,
         log: &R,
     ) -> Result<PollEvents<'_, T>, HostError>
+        ensures* lent { sem 𝓛 (follows_so (the_row T.row) (the_row T.row) self.entry.ghost_name none (λ _ _. ⊤) (KeepsMembers self.entry.now)) }
         ensures faults { CountsFaults (H.fault_count host.old) (H.fault_count host.new) (H.never_fails host.old) (H.never_fails host.new) result }
         ensures refusals { RefusesBy result (HostError.Failed ∷ HostError.EBADF ∷ HostError.OutOfMemory ∷ []) }
         ensures table { Told (H.held host.old) (H.held host.new) (PollCall (λ polled. polled.events.now) self.entry.now.context.list result) }
     {
-        let polled = self.context.wait(alloc, host, &mut self.events)?;
-        if self.checks {
-            let before = self.hangups;
-            for _hung_up in polled.iter_hungup() {
-                self.hangups = self.hangups.saturating_add(1);
-            }
-            if before <= self.members && self.hangups > self.members {
-                warn!(log; "busy poll wait loop with hungup FDs detected");
-            }
-        }
-        Ok(polled)
+        self.poll(alloc, host, log)?;
+        Ok(self.polled())
     }
 
     /// As [`PollContext::wait`]: since nothing is waited for, the timeout has no part in it.
@@ -371,6 +422,7 @@ impl<T: PollToken> PollContext<T> {
         log: &R,
         _timeout: Duration,
     ) -> Result<PollEvents<'_, T>, HostError>
+        ensures* lent { sem 𝓛 (follows_so (the_row T.row) (the_row T.row) self.entry.ghost_name none (λ _ _. ⊤) (KeepsMembers self.entry.now)) }
         ensures faults { CountsFaults (H.fault_count host.old) (H.fault_count host.new) (H.never_fails host.old) (H.never_fails host.new) result }
         ensures refusals { RefusesBy result (HostError.Failed ∷ HostError.EBADF ∷ HostError.OutOfMemory ∷ []) }
         ensures table { Told (H.held host.old) (H.held host.new) (PollCall (λ polled. polled.events.now) self.entry.now.context.list result) }

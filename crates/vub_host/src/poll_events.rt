@@ -58,6 +58,13 @@ impl EpollEvents {
         &self.events[..self.count]
     }
 
+    /// The events as those of a poll, lent.
+    pub(crate) fn polled<T: PollToken>(&self) -> PollEvents<'_, T>
+        ensures { result.events.now ≡ self.now }
+    {
+        PollEvents::new(self.as_slice())
+    }
+
     /// Holds the events that report these members, at most 16, and no other.
     pub(crate) fn fill(&mut self, ready: &[Ready])
         ensures { self.new ≡ map event_of (take 16 ready.now) }

@@ -1,9 +1,10 @@
 use crate::{
     ControlOperation, Epoll, EpollContext, EpollEvent, EpollEvents, EventFd, EventFlag, EventSet,
-    Host, HostError, MemHost, MemSocket, PollContext, PollEvents, PollToken, ScmSocket, TimerFd,
-    WatchingEvents, new_event_consumer_and_notifier, timeout_millis,
+    Host, HostError, IntoIovec, MemHost, MemSocket, Objects, PollContext, PollEvents, PollToken,
+    ScmSocket, TimerFd, WatchingEvents, new_event_consumer_and_notifier, timeout_millis,
 };
 use log::sink::Memory;
+use std::alloc::Global;
 use std::process::Abort;
 use std::test::Fail;
 use std::time::Duration;
@@ -52,18 +53,29 @@ fn counter_is_shared_by_its_clones(rt: HostRuntime) -> Result<(), Fail> {
     assert_eq!(rt; counter.try_clone()?.read(&mut host)?, 55);
     let same = EventFd::from_object(counter.object());
     assert_eq!(rt; same.read(&mut host), Err(HostError::WouldBlock));
+    same.write(&mut host, u64::MAX - 1)?;
+    assert_eq!(rt; same.write(&mut host, 1), Err(HostError::WouldBlock));
+    assert_eq!(rt;
+        EventFd::new(rt.alloc(), &mut host, 2).map(|made| made.object()),
+        Err(HostError::EINVAL)
+    );
     Ok(())
 }
 
 #[test]
 fn consumer_takes_what_the_notifier_told(rt: HostRuntime) -> Result<(), Fail> {
     let mut host = MemHost::new(rt.alloc());
-    let flags = EventFlag::NONBLOCK;
-    let (consumer, notifier) = new_event_consumer_and_notifier(rt.alloc(), &mut host, flags)?;
-    assert_eq!(rt; consumer.object(), notifier.object());
-    notifier.try_clone()?.notify(&mut host)?;
-    consumer.try_clone()?.consume(&mut host)?;
-    assert_eq!(rt; consumer.consume(&mut host), Err(HostError::WouldBlock));
+    for flags in [
+        EventFlag::NONBLOCK,
+        EventFlag::CLOEXEC,
+        EventFlag::NONBLOCK | EventFlag::CLOEXEC,
+    ] {
+        let (consumer, notifier) = new_event_consumer_and_notifier(rt.alloc(), &mut host, flags)?;
+        assert_eq!(rt; consumer.object(), notifier.object());
+        notifier.try_clone()?.notify(&mut host)?;
+        consumer.try_clone()?.consume(&mut host)?;
+        assert_eq!(rt; consumer.consume(&mut host), Err(HostError::WouldBlock));
+    }
     Ok(())
 }
 
@@ -142,60 +154,163 @@ fn tokens_are_cut_to_their_bits(rt: HostRuntime) {
     assert_eq!(rt; <()>::from_raw_token(raw).as_raw_token(), 0);
 }
 
+/// A host with so many counters, each at 1.
+fn counters(alloc: Global, count: u32) -> Result<MemHost, HostError> {
+    let mut host = MemHost::new(alloc);
+    for _counter in 0..count {
+        let counter = EventFd::new(alloc, &mut host, 0)?;
+        counter.write(&mut host, 1)?;
+    }
+    Ok(host)
+}
+
+/// The bits and the token of each of these events.
+fn told(alloc: Global, polled: PollEvents<'_, u8>) -> Result<Vec<(u32, u8)>, Fail> {
+    let mut told = Vec::new(alloc);
+    for event in polled.iter() {
+        told.push((event.raw_events(), event.token()))?;
+    }
+    Ok(told)
+}
+
 #[test]
 fn context_names_its_objects(rt: HostRuntime) -> Result<(), Fail> {
-    let mut host = MemHost::new(rt.alloc());
-    let context: EpollContext<u8> = EpollContext::new(rt.alloc(), &mut host)?;
-    let object = host.create_event(rt.alloc(), 0)?;
-    context.add(rt.alloc(), &mut host, object, 7)?;
-    let both = WatchingEvents::empty().set_read().set_write();
-    context.modify(&mut host, object, both, 8)?;
+    let alloc = rt.alloc();
+    let mut host = counters(alloc, 2)?;
+    let context: EpollContext<u8> = EpollContext::new(alloc, &mut host)?;
+    context.add(alloc, &mut host, 0, 7)?;
+    let write = WatchingEvents::empty().set_write();
+    context.add_fd_with_events(alloc, &mut host, 1, write, 8)?;
+    let mut events = EpollEvents::default();
+    let polled = context.wait(alloc, &mut host, &mut events)?;
+    assert_eq!(rt;
+        told(alloc, polled)?.as_slice(),
+        [(1, 7), (4, 8)].as_slice()
+    );
+    context.modify(&mut host, 1, write.set_read(), 9)?;
+    context.delete(&mut host, 0)?;
+    let polled = context.wait_timeout(alloc, &mut host, &mut events, Duration::ZERO)?;
+    assert_eq!(rt; told(alloc, polled)?.as_slice(), [(5, 9)].as_slice());
+    Ok(())
+}
+
+#[test]
+fn poll_context_changes_its_members(rt: HostRuntime) -> Result<(), Fail> {
+    let alloc = rt.alloc();
+    let log = Memory::new(alloc);
+    let mut host = counters(alloc, 2)?;
+    let mut context: PollContext<u8> = PollContext::new(alloc, &mut host)?;
+    context.add(alloc, &mut host, 0, 7)?;
+    let write = WatchingEvents::new(4);
+    context.add_fd_with_events(alloc, &mut host, 1, write, 8)?;
+    let polled = context.wait(alloc, &mut host, &log)?;
+    assert_eq!(rt;
+        told(alloc, polled)?.as_slice(),
+        [(1, 7), (4, 8)].as_slice()
+    );
+    context.modify(&mut host, 1, write.set_read(), 9)?;
+    context.delete(&mut host, 0)?;
+    assert_eq!(rt; context.delete(&mut host, 0), Err(HostError::ENOENT));
+    let polled = context.wait_timeout(alloc, &mut host, &log, Duration::ZERO)?;
+    assert_eq!(rt; told(alloc, polled)?.as_slice(), [(5, 9)].as_slice());
+    Ok(())
+}
+
+#[test]
+fn wait_answers_at_most_sixteen_events(rt: HostRuntime) -> Result<(), Fail> {
+    let alloc = rt.alloc();
+    let mut host = counters(alloc, 33)?;
+    let context: EpollContext<u32> = EpollContext::new(alloc, &mut host)?;
+    for object in 0..33 {
+        context.add(alloc, &mut host, object, object)?;
+    }
     let mut events = EpollEvents::new();
-    let polled = context.wait(rt.alloc(), &mut host, &mut events)?;
-    assert_eq!(rt; polled.events().len(), 1);
-    context.delete(&mut host, object)?;
+    for count in [16, 16, 1, 0] {
+        let polled = context.wait(alloc, &mut host, &mut events)?;
+        assert!(rt; polled.iter_hungup().next().is_none());
+        let mut read = Vec::new(alloc);
+        for event in polled.iter_readable() {
+            EventFd::from_object(event.token()).read(&mut host)?;
+            read.push(event.token())?;
+        }
+        assert_eq!(rt; read.len(), count);
+    }
     Ok(())
 }
 
 #[test]
 fn busy_loop_is_warned_of_once(rt: HostRuntime) -> Result<(), Fail> {
-    let mut host = MemHost::new(rt.alloc());
-    let log = Memory::new(rt.alloc());
-    let mut context: PollContext<u8> = PollContext::new(rt.alloc(), &mut host)?;
-    let object = host.create_event(rt.alloc(), 0)?;
-    context.add(rt.alloc(), &mut host, object, 7)?;
-    host.hang_up(object);
-    for wait in 0..6 {
-        context.set_check_for_hangup(wait > 1);
-        let _polled = context.wait(rt.alloc(), &mut host, &log)?;
-    }
-    let lines = log.into_lines();
-    assert_eq!(rt; lines.len(), 1);
-    for line in lines.as_slice() {
-        let text = "busy poll wait loop with hungup FDs detected";
-        assert!(rt; line.as_str().contains(text));
+    // one member: hang-ups are counted from the third wait on, and pass 1 at the fourth
+    for (waits, warnings) in [(3, 0), (4, 1), (7, 1)] {
+        let mut host = counters(rt.alloc(), 1)?;
+        let log = Memory::new(rt.alloc());
+        let mut context: PollContext<u8> = PollContext::new(rt.alloc(), &mut host)?;
+        context.add(rt.alloc(), &mut host, 0, 7)?;
+        host.hang_up(0);
+        for wait in 0..waits {
+            context.set_check_for_hangup(wait > 1);
+            let _polled = context.wait(rt.alloc(), &mut host, &log)?;
+        }
+        let lines = log.into_lines();
+        assert_eq!(rt; lines.len(), warnings);
+        for line in lines.as_slice() {
+            let text = "busy poll wait loop with hungup FDs detected";
+            assert!(rt; line.as_str().contains(text));
+        }
     }
     Ok(())
 }
 
 #[test]
 fn message_with_too_many_objects_is_gone(rt: HostRuntime) -> Result<(), Fail> {
-    let mut host = MemHost::new(rt.alloc());
-    let first = host.create_event(rt.alloc(), 0)?;
+    let mut host = counters(rt.alloc(), 2)?;
     let mut socket = MemSocket::new(rt.alloc());
     let bufs = [Vec::from_slice(rt.alloc(), b"abc")?];
-    let sent = socket.send_with_fds(rt.alloc(), &mut host, &bufs, &[first, 1])?;
+    let sent = socket.send_with_fds(rt.alloc(), &mut host, &bufs, &[0, 1])?;
     assert_eq!(rt; sent, 3);
     let mut buf = [0; 2];
+    let mut objects = [9];
     assert_eq!(rt;
-        socket.recv_with_fd(&mut host, &mut buf),
+        socket.recv_with_fds(&mut host, &mut buf, &mut objects),
         Err(HostError::ENOBUFS)
     );
-    assert_eq!(rt; host.signal(first, 1), Err(HostError::EBADF));
+    assert_eq!(rt; host.signal(0, 1), Err(HostError::EBADF));
+    assert_eq!(rt; host.signal(1, 1), Err(HostError::EBADF));
     assert_eq!(rt;
         socket.recv_with_fd(&mut host, &mut buf),
         Err(HostError::WouldBlock)
     );
+    socket.send_with_fds(rt.alloc(), &mut host, &bufs, &[0, 1])?;
+    assert_eq!(rt;
+        socket.recv_with_fd(&mut host, &mut buf),
+        Err(HostError::ENOBUFS)
+    );
+    assert_eq!(rt;
+        socket.recv_with_fds(&mut host, &mut buf, &mut objects),
+        Err(HostError::WouldBlock)
+    );
+    Ok(())
+}
+
+#[test]
+fn message_carries_its_objects(rt: HostRuntime) -> Result<(), Fail> {
+    let mut host = MemHost::new(rt.alloc());
+    let mut socket = MemSocket::new(rt.alloc());
+    let bufs = [
+        Vec::from_slice(rt.alloc(), b"ab")?,
+        Vec::from_slice(rt.alloc(), b"c")?,
+    ];
+    assert_eq!(rt; bufs[0].size(), 2);
+    assert_eq!(rt; bufs[1].bytes(), b"c".as_slice());
+    let named = Objects::from_slice(rt.alloc(), &[4, 9])?;
+    let sent = socket.send_with_fds(rt.alloc(), &mut host, &bufs, named.as_slice())?;
+    assert_eq!(rt; sent, 3);
+    let mut buf = [0; 4];
+    let mut objects = [0; 3];
+    let answer = socket.recv_with_fds(&mut host, &mut buf, &mut objects);
+    assert_eq!(rt; answer, Ok((3, 2)));
+    assert_eq!(rt; buf.as_slice(), b"abc\0".as_slice());
+    assert_eq!(rt; objects.as_slice(), [4, 9, 0].as_slice());
     Ok(())
 }
 
@@ -208,5 +323,17 @@ fn message_is_cut_to_the_buffer(rt: HostRuntime) -> Result<(), Fail> {
     let mut buf = [0; 2];
     assert_eq!(rt; socket.recv_with_fd(&mut host, &mut buf)?, (2, Some(5)));
     assert_eq!(rt; buf.as_slice(), b"xy".as_slice());
+    // an object without bytes, and bytes without an object
+    let sent = socket.send_with_fd(rt.alloc(), &mut host, b"".as_slice(), 6)?;
+    assert_eq!(rt; sent, 0);
+    socket.send_with_fds(
+        rt.alloc(),
+        &mut host,
+        &[Vec::from_slice(rt.alloc(), b"z")?],
+        &[],
+    )?;
+    assert_eq!(rt; socket.recv_with_fd(&mut host, &mut buf)?, (0, Some(6)));
+    assert_eq!(rt; socket.recv_with_fd(&mut host, &mut buf)?, (1, None));
+    assert_eq!(rt; buf.as_slice(), b"zy".as_slice());
     Ok(())
 }

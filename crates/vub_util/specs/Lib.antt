@@ -1,4 +1,6 @@
 pub mod Align
 pub mod Errno
 pub mod Ioctl
+pub mod Lends
 pub mod Syscall
+pub mod Temp

@@ -1,5 +1,6 @@
 //! Lists behind a header that holds their length, as C's structs with a flexible array member.
 ghost use Rattle.std.specs.Prelude.{◌≡◌, ◌≢◌, ◌+◌, ◌<◌, ◌≤◌, ◌&&◌, ℕ, List, [], ◌∷◌, ◌++◌, length, replicate, vec_len, Ok, Err, IfOk, OnOk, OnErr, IsErrOf, MatchResult, ◌↔◌};
+ghost use Rattle.std.specs.Borrow.{sem};
 ghost use Rattle.std.specs.List.Retain.{IsFiltered};
 ghost use Rattle.std.specs.Fn.{CalledAt};
 
@@ -88,6 +89,8 @@ pub struct FamStructWrapper<T: Default + FamStruct> {
 }
 
 impl<T: Default + FamStruct> FamStructWrapper<T> {
+    ghost use Rattle.vub_util.specs.Lends.{lends_entries};
+
     /// The default header and `n` zero entries.
     ///
     /// # Errors
@@ -193,9 +196,11 @@ impl<T: Default + FamStruct> FamStructWrapper<T> {
         self.entries.as_slice()
     }
 
-    /// The entries, to be changed in place.
+    /// The entries, to be changed in place. Once the slice is given back, the list has what was written through it,
+    /// and the header stands.
     pub fn as_mut_slice(&mut self) -> &mut [T::Entry]
-        ensures { result.now ≡ self.old.entries.items }
+        ensures* writes_back { sem 𝓛 (lends_entries T.row T.Entry.row T.Default T.FamStruct self.entry result) }
+        ensures entries { result.now ≡ self.old.entries.items }
     {
         self.entries.as_mut_slice()
     }

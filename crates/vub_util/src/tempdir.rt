@@ -75,7 +75,9 @@ impl TempDir {
     ///
     /// # Errors
     /// The system's number; want of memory.
-    pub fn remove<R: Files>(&mut self, rt: &R, alloc: Global) -> Result<(), TempError> {
+    pub fn remove<R: Files>(&mut self, rt: &R, alloc: Global) -> Result<(), TempError>
+        ensures { self.new ≡ self.old }
+    {
         rt.remove_dir_all(alloc, self.path.as_str())?;
         Ok(())
     }

@@ -1,3 +1,7 @@
+ghost use Rattle.std.specs.Prelude.{◌≡◌, pos, unwrap_or};
+ghost use Rattle.std.specs.IoError.{error_kind, raw_os_error};
+ghost use Rattle.vub_util.specs.Temp.{refusal_of};
+
 use std::alloc::AllocError;
 use std::io;
 use thiserror::Error;
@@ -17,12 +21,19 @@ pub enum TempError {
 }
 
 impl From<AllocError> for TempError {
+    ghost use Rattle.vub_util.specs.declared.temperror.TempError.{TempError};
+
+    ghost from_gives = { λ _ r. r ≡ TempError.OutOfMemory };
+
     fn from(_refused: AllocError) -> TempError {
         TempError::OutOfMemory
     }
 }
 
 impl From<io::Error> for TempError {
+    ghost from_gives = { λ e r. r ≡ refusal_of (error_kind e) (unwrap_or (raw_os_error e) (pos 0)) };
+
+    /// By the kind of the system's error, and else by its number, or 0 where it has none.
     fn from(refused: io::Error) -> TempError {
         match refused.kind() {
             io::ErrorKind::AlreadyExists => TempError::Taken,

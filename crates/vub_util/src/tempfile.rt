@@ -92,7 +92,9 @@ impl<F: Drop> TempFile<F> {
     ///
     /// # Errors
     /// The system's number.
-    pub fn remove<R: Files<File = F>>(&mut self, rt: &R) -> Result<(), TempError> {
+    pub fn remove<R: Files<File = F>>(&mut self, rt: &R) -> Result<(), TempError>
+        ensures { self.new ≡ self.old }
+    {
         fs::remove_file(rt, self.path.as_str())?;
         Ok(())
     }
