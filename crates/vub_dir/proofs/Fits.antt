@@ -1,7 +1,7 @@
 -- No reply is longer than its room.
 use Rattle.std.proofs.Common.{◌≡◌, ◌∙◌, ℕ, ◌+◌, ◌≤◌, List, [], ◌∷◌, Bool, true, false, cond, nat_le, length, Result, Ok, Err, refl, ap, arith, length-append}
 use Rattle.vub_dir.specs.declared.fuse.TheConstants.{EIO}
-use Rattle.vub_dir.specs.declared.node.Node.{Node}
+use Rattle.vub_dir.specs.Node.{Node}
 use Rattle.vub_dir.specs.declared.layout.Field.TheVariants.{U32, U64}
 use Rattle.vub_dir.specs.Layout.{fields_bytes}
 use Rattle.vub_dir.specs.Replies.{message, refusal, fitted, negative}

@@ -3,7 +3,7 @@ use Rattle.std.proofs.Common.{◌≡◌, ◌∙◌, ℕ, ◌+◌, ◌-◌, ◌==
 use Rattle.std.proofs.Math.Seq.{map-set_same}
 use Rattle.std.proofs.lemmas.Option.{get_or_from_slice_get}
 use Rattle.vub_dir.specs.declared.entry.TreeEntry.{TreeEntry}
-use Rattle.vub_dir.specs.declared.node.Node.{Node}
+use Rattle.vub_dir.specs.Node.{Node}
 use Rattle.vub_dir.specs.declared.node.Node.TheVariants.{Directory, File}
 use Rattle.vub_dir.specs.Tree.{node_at, put_child, with_node, named, name_in_node}
 use Rattle.vub_dir.specs.Building.{new_node, with_entry, with_entries, content_of, tree_of}

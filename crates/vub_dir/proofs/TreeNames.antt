@@ -9,7 +9,7 @@ use Rattle.std.specs.declared.cmp.Ordering.TheVariants.{Less, Equal, Greater}
 use Rattle.vub_dir.specs.declared.entry.TreeEntry.{TreeEntry}
 use Rattle.vub_dir.specs.declared.entry.TreeError.{TreeError}
 use Rattle.vub_dir.specs.declared.entry.TreeError.TheVariants.{Name, Twice, TooBig}
-use Rattle.vub_dir.specs.declared.node.Node.{Node}
+use Rattle.vub_dir.specs.Node.{Node}
 use Rattle.vub_dir.specs.declared.node.Node.TheVariants.{Directory, File}
 use Rattle.vub_dir.specs.Names.{Entry, name_cmp, find_name, put_name}
 use Rattle.vub_dir.specs.Tree.{node_at, child_of, child_in_some, or_missing, names_in, names_of, put_child, with_node, named, name_in_node}
@@ -320,21 +320,25 @@ directory_there : (nodes : List Node) (n : ℕ) (names : List Entry) → names_o
 unfolding names_of
 directory_there nodes n names h = names_there (node_at nodes n) names h
 
+-- the tree of no entries
+abbrev root : List Node
+root = Directory [] ∷ []
+
 pub tree_named : (entries : List TreeEntry) (i : ℕ) (e : TreeEntry) (names : List Entry) → first_fault entries ≡ None → slice_get entries i ≡ Some e
     → names_of (tree_of (take i entries)) e.parent ≡ Ok names → child_of (tree_of entries) e.parent e.name ≡ Ok (i + 2)
 unfolding tree_of first_fault
 tree_named entries i e names free at there =
-    all_named entries (Directory [] ∷ []) (0 ∷ []) i e names free at (directory_there (with_entries (Directory [] ∷ []) (take i entries)) e.parent names there)
-    ∙ ap (λ (n : ℕ). Ok n) (let sum : length (Directory [] ∷ []) + 1 + i ≡ i + 2 = omega arith in sum)
+    all_named entries root (0 ∷ []) i e names free at (directory_there (with_entries root (take i entries)) e.parent names there)
+    ∙ ap (λ (n : ℕ). Ok n) (let sum : length root + 1 + i ≡ i + 2 = omega arith in sum)
 
-root_place : (k : ℕ) (names : List Entry) → slice_get (Directory [] ∷ []) k ≡ Some (Directory names) → names ≡ []
+root_place : (k : ℕ) (names : List Entry) → slice_get root k ≡ Some (Directory names) → names ≡ []
 root_place zero names h = cc
 root_place (suc k) names h = cc
 
-root_empty : (p : ℕ) (q : List ℕ) (c : ℕ) → Has (Directory [] ∷ []) p q c → ⊥
-root_empty p q c h = nothing q h.names c (root_place (p - 1) h.names (place_of (Directory [] ∷ []) p (Directory h.names) h.node).1) h.finds
+root_empty : (p : ℕ) (q : List ℕ) (c : ℕ) → Has root p q c → ⊥
+root_empty p q c h = nothing q h.names c (root_place (p - 1) h.names (place_of root p (Directory h.names) h.node).1) h.finds
 
-listed_at : (entries : List TreeEntry) (p : ℕ) (q : List ℕ) (c : ℕ) → At entries (length (Directory [] ∷ []) + 1) p q c → IsListed entries p q c
+listed_at : (entries : List TreeEntry) (p : ℕ) (q : List ℕ) (c : ℕ) → At entries (length root + 1) p q c → IsListed entries p q c
 listed_at entries p q c h =
     record {
       place = h.place;
@@ -348,7 +352,7 @@ listed_at entries p q c h =
 pub tree_only : (entries : List TreeEntry) (p : ℕ) (q : List ℕ) (c : ℕ) → child_of (tree_of entries) p q ≡ Ok c → IsListed entries p q c
 unfolding tree_of
 tree_only entries p q c h =
-    elim (only_these entries (Directory [] ∷ []) p q c (has (with_entries (Directory [] ∷ []) entries) p q c h)) [
+    elim (only_these entries root p q c (has (with_entries root entries) p q c h)) [
       | inl old ↦ absurd (root_empty p q c old)
       | inr there ↦ listed_at entries p q c there
     ]

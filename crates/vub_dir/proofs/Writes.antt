@@ -1,6 +1,6 @@
 -- When a WRITE succeeds with a reply that fits.
 use Rattle.std.proofs.Common.{◌≡◌, ◌∙◌, ℕ, List, [], ◌∷◌, false, Option, Some, None, nat_le, refl, ap}
-use Rattle.vub_dir.specs.declared.node.Node.{Node}
+use Rattle.vub_dir.specs.Node.{Node}
 use Rattle.vub_dir.specs.declared.layout.Field.TheVariants.{U32}
 use Rattle.vub_dir.specs.Layout.{fields_bytes}
 use Rattle.vub_dir.specs.Directory.{write_refusal, write_of, unless_refused, succeeds, size_in}

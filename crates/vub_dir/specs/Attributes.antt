@@ -3,7 +3,7 @@ use Rattle.std.specs.Prelude.{ℕ, ◌+◌, ◌/◌, List, [], ◌∷◌, length
 use Rattle.vub_dir.specs.declared.fuse.TheConstants.{FILE_MODE, DIRECTORY_MODE, DT_DIR, DT_REG}
 use Rattle.vub_dir.specs.declared.layout.Field.{Field}
 use Rattle.vub_dir.specs.declared.layout.Field.TheVariants.{U32, U64}
-use Rattle.vub_dir.specs.declared.node.Node.{Node}
+use Rattle.vub_dir.specs.Node.{Node}
 use Rattle.vub_dir.specs.declared.node.Node.TheVariants.{Directory, File}
 
 -- the length of a file, 0 for a directory

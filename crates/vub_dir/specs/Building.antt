@@ -6,7 +6,7 @@ use Rattle.vub_dir.specs.declared.fuse.TheConstants.{GREATEST_FILE, GREATEST_COU
 use Rattle.vub_dir.specs.declared.entry.TreeEntry.{TreeEntry}
 use Rattle.vub_dir.specs.declared.entry.TreeError.{TreeError}
 use Rattle.vub_dir.specs.declared.entry.TreeError.TheVariants.{Name, Twice, TooBig}
-use Rattle.vub_dir.specs.declared.node.Node.{Node}
+use Rattle.vub_dir.specs.Node.{Node}
 use Rattle.vub_dir.specs.declared.node.Node.TheVariants.{Directory, File}
 use Rattle.vub_dir.specs.Tree.{child_of, put_child}
 

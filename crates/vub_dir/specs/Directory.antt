@@ -4,7 +4,7 @@ use Rattle.std.specs.Prelude.{ℕ, ◌+◌, ◌-◌, ◌%◌, ◌==◌, Bool, fa
 use Rattle.vub_dir.specs.declared.fuse.TheConstants.{FUSE_INIT, FUSE_LOOKUP, FUSE_FORGET, FUSE_GETATTR, FUSE_OPEN, FUSE_READ, FUSE_WRITE, FUSE_READDIR, FUSE_KERNEL_VERSION, FUSE_KERNEL_MINOR_VERSION, GREATEST_WRITE, GREATEST_FILE, ENOENT, EINVAL, EFBIG, ENOSYS, EPROTO}
 use Rattle.vub_dir.specs.declared.layout.Field.{Field}
 use Rattle.vub_dir.specs.declared.layout.Field.TheVariants.{U16, U32, U64}
-use Rattle.vub_dir.specs.declared.node.Node.{Node}
+use Rattle.vub_dir.specs.Node.{Node}
 use Rattle.vub_dir.specs.Attributes.{attribute_fields}
 use Rattle.vub_dir.specs.Layout.{fields_bytes, u32_at, u64_at}
 use Rattle.vub_dir.specs.Names.{Entry}

@@ -4,6 +4,7 @@ pub mod Content
 pub mod Directory
 pub mod Layout
 pub mod Names
+pub mod Node
 pub mod Replies
 pub mod Requests
 pub mod Tree

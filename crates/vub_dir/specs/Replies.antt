@@ -3,15 +3,20 @@
 use Rattle.std.specs.Prelude.{ℕ, ◌+◌, ◌-◌, ◌%◌, ◌^◌, nat_le, if◌then◌else◌, List, [], ◌∷◌, ◌++◌, length, Result, Ok, Err}
 use Rattle.vub_dir.specs.Layout.{fields_bytes}
 use Rattle.vub_dir.specs.declared.fuse.TheConstants.{EIO}
+use Rattle.vub_dir.specs.declared.layout.Field.{Field}
 use Rattle.vub_dir.specs.declared.layout.Field.TheVariants.{U32, U64}
 
 -- the number -errno in 32 bits, in two's complement
 abbrev pub negative : ℕ → ℕ
 negative errno = (2 ^ 32 - errno) % 2 ^ 32
 
--- the header (length u32, error i32, unique u64; 16 bytes), and then the body
+-- the header: length u32, error i32, unique u64; 16 bytes
+abbrev pub header_fields : ℕ → ℕ → ℕ → List Field
+header_fields size unique errno = U32 size ∷ U32 (negative errno) ∷ U64 unique ∷ []
+
+-- the header, and then the body
 unfoldable pub message : ℕ → ℕ → List ℕ → List ℕ
-message unique errno body = fields_bytes (U32 (16 + length body) ∷ U32 (negative errno) ∷ U64 unique ∷ []) ++ body
+message unique errno body = fields_bytes (header_fields (16 + length body) unique errno) ++ body
 
 -- an error is a header alone; it is dropped where the room is too short for it
 unfoldable pub refusal : ℕ → ℕ → ℕ → List ℕ

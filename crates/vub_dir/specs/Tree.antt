@@ -2,7 +2,7 @@
 -- gap; so the map is the list of its nodes.
 use Rattle.std.specs.Prelude.{ℕ, ◌-◌, ◌==◌, if◌then◌else◌, List, Option, Some, None, Result, Ok, Err, slice_get, slice_set}
 use Rattle.vub_dir.specs.declared.fuse.TheConstants.{ENOENT, ENOTDIR, EISDIR, DT_REG}
-use Rattle.vub_dir.specs.declared.node.Node.{Node}
+use Rattle.vub_dir.specs.Node.{Node}
 use Rattle.vub_dir.specs.declared.node.Node.TheVariants.{Directory, File}
 use Rattle.vub_dir.specs.Attributes.{kind_of}
 use Rattle.vub_dir.specs.Content.{overlay}

@@ -7,12 +7,13 @@ ghost use Rattle.vub_dir.specs.Replies.{fitted};
 ghost use Rattle.vub_dir.specs.Requests.{name_in};
 
 use crate::fuse::{
-    EFBIG, EINVAL, ENOENT, ENOSYS, EPROTO, FUSE_GETATTR, FUSE_INIT, FUSE_KERNEL_MINOR_VERSION,
-    FUSE_KERNEL_VERSION, FUSE_LOOKUP, FUSE_OPEN, FUSE_READ, FUSE_READDIR, FUSE_WRITE,
-    GREATEST_FILE, GREATEST_WRITE,
+    EFBIG, EINVAL, ENOENT, ENOSYS, EPROTO, FUSE_ATTR_OUT_SIZE, FUSE_ENTRY_OUT_SIZE, FUSE_GETATTR,
+    FUSE_INIT, FUSE_KERNEL_MINOR_VERSION, FUSE_KERNEL_VERSION, FUSE_LOOKUP, FUSE_OPEN, FUSE_READ,
+    FUSE_READDIR, FUSE_WRITE, GREATEST_FILE, GREATEST_WRITE,
 };
 use crate::layout::{Field, bytes_after, put_fields, u32_in, u64_in};
 use crate::listing::put_entries;
+use crate::names::Names;
 use crate::node::Node;
 use crate::slot::Slot;
 use crate::tree::Tree;
@@ -140,7 +141,13 @@ fn entry(
     }
 }
 
-fn entry_of(alloc: Global, slot: Slot, number: u64, node: &Node) -> Result<Bytes, OutOfMemory>
+#[tactic(auto, unfolding(crate::specs::Layout::fields_bytes, crate::specs::Attributes::attribute_fields))]
+fn entry_of(
+    alloc: Global,
+    slot: Slot,
+    number: u64,
+    node: &Node<Names>,
+) -> Result<Bytes, OutOfMemory>
     ensures { IfOk result (λ reply. reply ≡ fitted slot.room slot.unique (entry_at number (Some node.now))) }
 {
     let fields = [
@@ -151,10 +158,12 @@ fn entry_of(alloc: Global, slot: Slot, number: u64, node: &Node) -> Result<Bytes
         Field::U32(0),
         Field::U32(0),
     ];
-    let mut out = Vec::new(alloc);
-    put_fields(&mut out, &fields)?;
-    put_fields(&mut out, &node.attributes(number))?;
-    slot.succeed(alloc, &out)
+    slot.succeed_with(
+        alloc,
+        FUSE_ENTRY_OUT_SIZE,
+        &fields,
+        &node.attributes(number),
+    )
 }
 
 /// GETATTR: the attributes of a node (`struct fuse_attr_out`).
@@ -168,13 +177,17 @@ fn getattr(alloc: Global, slot: Slot, tree: &Tree, number: u64) -> Result<Bytes,
     }
 }
 
-fn attributes(alloc: Global, slot: Slot, number: u64, node: &Node) -> Result<Bytes, OutOfMemory>
+#[tactic(auto, unfolding(crate::specs::Layout::fields_bytes, crate::specs::Attributes::attribute_fields))]
+fn attributes(
+    alloc: Global,
+    slot: Slot,
+    number: u64,
+    node: &Node<Names>,
+) -> Result<Bytes, OutOfMemory>
     ensures { IfOk result (λ reply. reply ≡ fitted slot.room slot.unique (attributes_at number (Some node.now))) }
 {
-    let mut out = Vec::new(alloc);
-    put_fields(&mut out, &[Field::U64(0), Field::U32(0), Field::U32(0)])?;
-    put_fields(&mut out, &node.attributes(number))?;
-    slot.succeed(alloc, &out)
+    let fields = [Field::U64(0), Field::U32(0), Field::U32(0)];
+    slot.succeed_with(alloc, FUSE_ATTR_OUT_SIZE, &fields, &node.attributes(number))
 }
 
 /// OPEN: the handle of a file is its node (`struct fuse_open_out`).

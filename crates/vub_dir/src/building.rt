@@ -1,4 +1,4 @@
-ghost use Rattle.std.specs.Prelude.{◌≡◌, ◌+◌, ◌<◌, ◌++◌, ◌∷◌, ◌⊎◌, [], false, Some, None, Ok, ℕ, List, length, map, take, slice_get, IfNone, IfOk, IfErr, OnOk};
+ghost use Rattle.std.specs.Prelude.{◌≡◌, ◌+◌, ◌<◌, ◌++◌, ◌∷◌, ◌⊎◌, [], false, Some, None, Ok, ℕ, List, length, is_ok, map, take, slice_get, IfNone, IfOk, IfErr, OnOk};
 ghost use Rattle.vub_dir.specs.Building.{IsListed, are_name_bytes, content_of, depth_at, depth_of, fault_of, first_fault, is_dots, is_name, is_name_length, is_past, new_node, tree_of, with_entry};
 ghost use Rattle.vub_dir.specs.Tree.{child_of, name_in_node, names_of, put_child};
 ghost use Rattle.vub_dir.specs.Names.{Entry};
@@ -10,7 +10,8 @@ use crate::entry::{TreeEntry, TreeError};
 use crate::fuse::{GREATEST_COUNT, GREATEST_DEPTH, GREATEST_FILE, GREATEST_NAME};
 use crate::names::Names;
 use crate::node::Node;
-use crate::tree::{Tree, child_at};
+use crate::sorted_names::SortedNames;
+use crate::tree::{Tree, numbered};
 use std::alloc::{AllocError, Global};
 use vub_base::Bytes;
 
@@ -47,7 +48,7 @@ fn build(alloc: Global, entries: &[TreeEntry]) -> Result<Tree, TreeError>
     ensures refused { IfErr result (λ error. (error ≡ OutOfMemory) ⊎ (first_fault entries.now ≡ Some error)) }
 {
     let mut nodes = Vec::new(alloc);
-    nodes.push(Node::Directory(Names::new(alloc)))?;
+    nodes.push(Node::Directory(SortedNames::new(alloc)))?;
     let mut depths = Vec::new(alloc);
     depths.push(0)?;
     for entry in entries {
@@ -56,7 +57,32 @@ fn build(alloc: Global, entries: &[TreeEntry]) -> Result<Tree, TreeError>
             None => add(alloc, &mut nodes, &mut depths, entry)?,
         }
     }
+    let nodes = settled(alloc, nodes)?;
     Ok(Tree::from_nodes(nodes))
+}
+
+/// The node, with a table that finds the names of a directory.
+fn settled_node(alloc: Global, node: Node<SortedNames>) -> Result<Node<Names>, AllocError>
+    ensures { IfOk result (λ done. done ≡ node) }
+{
+    match node {
+        Node::Directory(sorted) => {
+            let names = Names::from_sorted(alloc, sorted)?;
+            Ok(Node::Directory(names))
+        }
+        Node::File(content) => Ok(Node::File(content)),
+    }
+}
+
+/// The nodes, with tables that find the names of the directories.
+fn settled(alloc: Global, nodes: Vec<Node<SortedNames>>) -> Result<Vec<Node<Names>>, AllocError>
+    ensures { IfOk result (λ done. done.items ≡ nodes.items) }
+{
+    let mut done = Vec::with_capacity(alloc, nodes.len())?;
+    for node in nodes {
+        done.push(settled_node(alloc, node)?)?;
+    }
+    Ok(done)
 }
 
 /// Whether these bytes may be a name.
@@ -113,16 +139,30 @@ fn is_too_big(depths: &[u32], entry: &TreeEntry) -> bool
     }
 }
 
+/// Whether the node with this number is a directory that has the name.
+#[tactic(auto, unfolding(crate::specs::Tree::child_of, crate::specs::Tree::node_at))]
+fn has_child(nodes: &[Node<SortedNames>], number: u64, name: &[u8]) -> bool
+    ensures { result ≡ is_ok (child_of nodes.now number name.now) }
+{
+    match numbered(nodes, number) {
+        None => false,
+        Some(node) => match node {
+            Node::Directory(names) => names.find(name).is_some(),
+            Node::File(_) => false,
+        },
+    }
+}
+
 /// Why the entry can't join these nodes, if it can't.
 #[tactic(auto, unfolding(crate::specs::Building::fault_of))]
-fn fault_at(nodes: &[Node], depths: &[u32], entry: &TreeEntry) -> Option<TreeError>
+fn fault_at(nodes: &[Node<SortedNames>], depths: &[u32], entry: &TreeEntry) -> Option<TreeError>
     ensures fault { result ≡ fault_of nodes.now depths.now entry.now }
 {
     let name = entry.name.as_slice();
     if !is_a_name(name) {
         return Some(TreeError::Name);
     }
-    if child_at(nodes, entry.parent, name).is_ok() {
+    if has_child(nodes, entry.parent, name) {
         return Some(TreeError::Twice);
     }
     if nodes.len() >= GREATEST_COUNT || is_too_big(depths, entry) {
@@ -132,7 +172,12 @@ fn fault_at(nodes: &[Node], depths: &[u32], entry: &TreeEntry) -> Option<TreeErr
 }
 
 /// Puts a name into a directory.
-fn put_name(alloc: Global, node: &mut Node, name: &[u8], child: u64) -> Result<(), AllocError>
+fn put_name(
+    alloc: Global,
+    node: &mut Node<SortedNames>,
+    name: &[u8],
+    child: u64,
+) -> Result<(), AllocError>
     ensures { OnOk result (node.new ≡ name_in_node node.old name.now child) }
 {
     match node {
@@ -145,7 +190,7 @@ fn put_name(alloc: Global, node: &mut Node, name: &[u8], child: u64) -> Result<(
 #[tactic(auto, unfolding(crate::specs::Tree::put_child, crate::specs::Tree::node_at))]
 fn put_name_at(
     alloc: Global,
-    nodes: &mut Vec<Node>,
+    nodes: &mut Vec<Node<SortedNames>>,
     number: u64,
     name: &[u8],
     child: u64,
@@ -159,7 +204,7 @@ fn put_name_at(
 }
 
 /// The node of an entry.
-fn node_of(alloc: Global, file: &Option<Bytes>) -> Result<Node, AllocError>
+fn node_of(alloc: Global, file: &Option<Bytes>) -> Result<Node<SortedNames>, AllocError>
     ensures { IfOk result (λ node. node ≡ new_node file.now) }
 {
     match file {
@@ -167,7 +212,7 @@ fn node_of(alloc: Global, file: &Option<Bytes>) -> Result<Node, AllocError>
             let content = Content::from_slice(alloc, bytes.as_slice())?;
             Ok(Node::File(content))
         }
-        None => Ok(Node::Directory(Names::new(alloc))),
+        None => Ok(Node::Directory(SortedNames::new(alloc))),
     }
 }
 
@@ -186,7 +231,7 @@ fn depth_under(depths: &[u32], entry: &TreeEntry) -> u32
 #[tactic(auto, unfolding(crate::specs::Building::with_entry, crate::specs::Building::fault_of))]
 fn add(
     alloc: Global,
-    nodes: &mut Vec<Node>,
+    nodes: &mut Vec<Node<SortedNames>>,
     depths: &mut Vec<u32>,
     entry: &TreeEntry,
 ) -> Result<(), AllocError>

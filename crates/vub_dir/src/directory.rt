@@ -21,7 +21,7 @@ pub struct DirService {
 
 impl Model for DirService {
     ghost use Rattle.std.specs.Prelude.{List};
-    ghost use Rattle.vub_dir.specs.declared.node.Node.{Node};
+    ghost use Rattle.vub_dir.specs.Node.{Node};
 
     ghost Value = { List Node };
 

@@ -30,6 +30,10 @@ pub const FUSE_READDIR: u32 = 28;
 pub const FUSE_IN_HEADER_SIZE: usize = 40;
 /// The length of a reply's header, in bytes (`struct fuse_out_header`).
 pub const FUSE_OUT_HEADER_SIZE: usize = 16;
+/// The length of the body of the reply to LOOKUP, in bytes (`struct fuse_entry_out`).
+pub const FUSE_ENTRY_OUT_SIZE: u32 = 128;
+/// The length of the body of the reply to GETATTR, in bytes (`struct fuse_attr_out`).
+pub const FUSE_ATTR_OUT_SIZE: u32 = 104;
 
 /// The mode of a file: a regular file, read by all and written by its owner (`S_IFREG`, 0644).
 pub const FILE_MODE: u32 = 33188;

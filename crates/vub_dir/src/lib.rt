@@ -14,6 +14,7 @@ mod listing;
 mod names;
 mod node;
 mod slot;
+mod sorted_names;
 mod tree;
 
 pub use directory::{DirService, reply};

@@ -3,8 +3,8 @@ ghost use Rattle.vub_dir.specs.Directory.{dirent, dirents, dirent_size, padding}
 
 use crate::layout::{Field, put_fields};
 use crate::tree::Tree;
+use indexmap::map::Iter;
 use std::alloc::AllocError;
-use std::collections::btree_map::Iter;
 
 /// How many zero bytes follow a name of this length in a listing.
 fn pad(length: usize) -> usize

@@ -1,15 +1,19 @@
-ghost use Rattle.std.specs.Prelude.{◌≡◌, ◌+◌, ◌<◌, ◌^◌, [], drop, length, map, OnOk};
-ghost use Rattle.vub_dir.specs.Names.{Entry, find_name, put_name};
+ghost use Rattle.std.specs.Prelude.{◌≡◌, ◌+◌, ◌<◌, ◌^◌, drop, length, map, IfOk};
+ghost use Rattle.vub_dir.specs.Names.{Entry, find_name};
 
+use crate::sorted_names::SortedNames;
+use indexmap::IndexMap;
+use indexmap::map::{Iter, Slice};
 use std::alloc::{AllocError, Global};
 use std::collections::BTreeMap;
-use std::collections::btree_map::Iter;
 use std::marker::Model;
 
-/// The names of one directory, each with the node that it names. A contract sees them as a list in name order.
+/// The names of one directory, each with the node that it names. A name is found by its hash, and by its place. A
+/// contract sees the list of the names.
 #[derive(Drop)]
 pub struct Names {
-    nodes: BTreeMap<Vec<u8>, u64>,
+    // on the heap, so that a node is no larger than a file needs
+    nodes: Box<IndexMap<Vec<u8>, u64>>,
 }
 
 impl Model for Names {
@@ -18,17 +22,18 @@ impl Model for Names {
 
     ghost Value = { List Entry };
 
-    ghost view = { λ n. map (λ e. record { name = e.0.items; node = e.1 }) n.nodes.entries };
+    ghost view = { λ n. map (λ e. record { name = e.0.items; node = e.1 }) n.nodes.value.entries };
 }
 
 impl Names {
-    /// No names. Takes no memory.
-    pub(crate) fn new(alloc: Global) -> Names
-        ensures { result ≡ [] }
+    /// These names, in their order. The names are moved; the table that finds them takes memory.
+    pub(crate) fn from_sorted(alloc: Global, sorted: SortedNames) -> Result<Names, AllocError>
+        ensures { IfOk result (λ names. names ≡ sorted) }
     {
-        Names {
-            nodes: BTreeMap::new(alloc),
-        }
+        let nodes = indexed(alloc, sorted.into_map())?;
+        Ok(Names {
+            nodes: Box::new(alloc, nodes)?,
+        })
     }
 
     /// The node with this name.
@@ -38,37 +43,38 @@ impl Names {
         self.nodes.get(name).copied()
     }
 
-    /// Puts the name in its place.
-    ///
-    /// # Errors
-    /// Want of memory leaves the names as they were.
-    pub(crate) fn put(&mut self, alloc: Global, name: &[u8], node: u64) -> Result<(), AllocError>
-        ensures { OnOk result (self.new ≡ put_name self.old name.now node) }
-    {
-        let name = Vec::from_slice(alloc, name)?;
-        let _before = self.nodes.insert(name, node)?;
-        Ok(())
-    }
-
-    /// The names from place `offset` on, in name order.
+    /// The names from place `offset` on, in their order.
     pub(crate) fn from_place(&self, offset: u64) -> Iter<'_, Vec<u8>, u64>
         ensures names { map (λ e. record { name = e.0.items; node = e.1 }) result ≡ drop offset self.now }
         ensures few { offset + length result < 2 ^ 64 }
     {
-        past(self.nodes.iter(), offset)
+        past(&self.nodes, offset as usize)
     }
 }
 
-/// What is left after the first `count` entries.
-fn past(mut rest: Iter<'_, Vec<u8>, u64>, count: u64) -> Iter<'_, Vec<u8>, u64>
-    ensures { result ≡ drop count rest.entry }
+/// The entries from place `offset` on.
+fn past(nodes: &IndexMap<Vec<u8>, u64>, offset: usize) -> Iter<'_, Vec<u8>, u64>
+    ensures rest { result ≡ drop offset nodes.now.entries }
+    ensures few { offset + length result < 2 ^ 64 }
 {
-    let mut left = count;
-    while left > 0 {
-        match rest.next() {
-            Some(_) => left -= 1,
-            None => return rest,
-        }
+    let all = nodes.as_slice();
+    if offset > all.len() {
+        return Slice::new().iter();
     }
-    rest
+    let (_, rest) = all.split_at(offset);
+    rest.iter()
+}
+
+/// The entries, in their order, with a table that finds them.
+fn indexed(
+    alloc: Global,
+    sorted: BTreeMap<Vec<u8>, u64>,
+) -> Result<IndexMap<Vec<u8>, u64>, AllocError>
+    ensures { IfOk result (λ nodes. nodes.entries ≡ sorted.entries) }
+{
+    let mut nodes = IndexMap::with_capacity(alloc, sorted.len())?;
+    for (name, node) in sorted {
+        let _before = nodes.insert(name, node)?;
+    }
+    Ok(nodes)
 }

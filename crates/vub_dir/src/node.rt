@@ -7,16 +7,16 @@ use crate::fuse::{DIRECTORY_MODE, DT_DIR, DT_REG, ENOENT, ENOTDIR, FILE_MODE};
 use crate::layout::Field;
 use crate::names::Names;
 
-/// What a node of the tree is.
+/// What a node of the tree is. `N` is what holds the names of a directory.
 #[derive(Drop)]
-pub enum Node {
+pub enum Node<N> {
     /// A directory, with the names in it.
-    Directory(Names),
+    Directory(N),
     /// A file, with its bytes.
     File(Content),
 }
 
-impl Node {
+impl Node<Names> {
     /// The length of a file in bytes; 0 for a directory.
     fn size(&self) -> u64
         ensures { result ≡ size_of self.now }

@@ -1,9 +1,10 @@
-ghost use Rattle.std.specs.Prelude.{◌≡◌, ◌+◌, ◌<◌, ◌^◌, Ok, Err, length, IfOk};
-ghost use Rattle.vub_dir.specs.Replies.{message, refusal, fitted};
+ghost use Rattle.std.specs.Prelude.{◌≡◌, ◌+◌, ◌<◌, ◌^◌, ◌++◌, Ok, Err, length, IfOk};
+ghost use Rattle.vub_dir.specs.Layout.{fields_bytes};
+ghost use Rattle.vub_dir.specs.Replies.{header_fields, message, refusal, fitted};
 
 use crate::fuse::{EIO, FUSE_OUT_HEADER_SIZE};
 use crate::layout::{Field, put_fields};
-use std::alloc::Global;
+use std::alloc::{AllocError, Global};
 use vub_base::{Bytes, OutOfMemory};
 
 /// Where a reply goes: the number that it repeats, and the room that it has, in bytes.
@@ -26,6 +27,28 @@ impl Slot {
         }
     }
 
+    /// The reply whose body is the bytes of these fields, `size` in all, or the error EIO where it does not fit.
+    #[tactic(auto, unfolding(crate::specs::Replies::fitted, crate::specs::Replies::message))]
+    pub(crate) fn succeed_with(
+        self,
+        alloc: Global,
+        size: u32,
+        head: &[Field],
+        tail: &[Field],
+    ) -> Result<Bytes, OutOfMemory>
+        requires { size ≡ length (fields_bytes head.now ++ fields_bytes tail.now) }
+        ensures { IfOk result (λ reply. reply ≡ fitted self.room self.unique (Ok (fields_bytes head.now ++ fields_bytes tail.now))) }
+    {
+        let length = FUSE_OUT_HEADER_SIZE + size as usize;
+        if length > self.room as usize {
+            return self.refuse(alloc, EIO);
+        }
+        let mut out = header(alloc, self.unique, 0, length as u32)?;
+        put_fields(&mut out, head)?;
+        put_fields(&mut out, tail)?;
+        Ok(Bytes::from_vec(out))
+    }
+
     /// The reply that refuses with this error, or nothing where there is no room for a header.
     #[tactic(auto, unfolding(crate::specs::Replies::fitted, crate::specs::Replies::refusal))]
     pub(crate) fn refuse(self, alloc: Global, errno: u32) -> Result<Bytes, OutOfMemory>
@@ -40,20 +63,28 @@ impl Slot {
     }
 }
 
-/// A reply: the header (`struct fuse_out_header`) and the body.
+/// The header of a reply of `length` bytes (`struct fuse_out_header`), with the memory for all of them.
+fn header(alloc: Global, unique: u64, errno: u32, length: u32) -> Result<Vec<u8>, AllocError>
+    ensures { IfOk result (λ out. out.items ≡ fields_bytes (header_fields length unique errno)) }
+{
+    let mut out = Vec::with_capacity(alloc, length as usize)?;
+    let fields = [
+        Field::U32(length),
+        Field::U32(0u32.wrapping_sub(errno)),
+        Field::U64(unique),
+    ];
+    put_fields(&mut out, &fields)?;
+    Ok(out)
+}
+
+/// A reply: the header and the body.
 #[tactic(auto, unfolding(crate::specs::Replies::message))]
 fn message(alloc: Global, unique: u64, errno: u32, body: &[u8]) -> Result<Bytes, OutOfMemory>
     requires { 16 + length body.now < 2 ^ 32 }
     ensures { IfOk result (λ reply. reply ≡ message unique errno body.now) }
 {
     let length = FUSE_OUT_HEADER_SIZE + body.len();
-    let mut out = Vec::with_capacity(alloc, length)?;
-    let header = [
-        Field::U32(length as u32),
-        Field::U32(0u32.wrapping_sub(errno)),
-        Field::U64(unique),
-    ];
-    put_fields(&mut out, &header)?;
+    let mut out = header(alloc, unique, errno, length as u32)?;
     out.extend_from_slice(body)?;
     Ok(Bytes::from_vec(out))
 }

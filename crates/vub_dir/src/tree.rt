@@ -1,4 +1,4 @@
-ghost use Rattle.std.specs.Prelude.{◌≡◌, ◌+◌, ◌<◌, ◌^◌, ◌++◌, ◌∷◌, [], Ok, Err, length, MatchResult, OnOk, OnErr};
+ghost use Rattle.std.specs.Prelude.{◌≡◌, ◌+◌, ◌-◌, ◌<◌, ◌^◌, ◌==◌, if◌then◌else◌, None, Ok, Err, length, slice_get, MatchResult, OnOk, OnErr};
 ghost use Rattle.std.specs.Option.{option_copied};
 ghost use Rattle.vub_dir.specs.Tree.{node_at, child_of, names_of, file_of, kind_at, write_node, write_at};
 
@@ -13,12 +13,12 @@ use std::marker::Model;
 /// first.
 #[derive(Drop)]
 pub struct Tree {
-    nodes: Vec<Node>,
+    nodes: Vec<Node<Names>>,
 }
 
 impl Model for Tree {
     ghost use Rattle.std.specs.Prelude.{List};
-    ghost use Rattle.vub_dir.specs.declared.node.Node.{Node};
+    ghost use Rattle.vub_dir.specs.Node.{Node};
 
     ghost Value = { List Node };
 
@@ -27,24 +27,29 @@ impl Model for Tree {
 
 impl Tree {
     /// A tree of these nodes, the root first.
-    pub(crate) fn from_nodes(nodes: Vec<Node>) -> Tree
+    pub(crate) fn from_nodes(nodes: Vec<Node<Names>>) -> Tree
         ensures { result ≡ nodes.items }
     {
         Tree { nodes }
     }
 
     /// The node with this number.
-    pub(crate) fn node(&self, number: u64) -> Option<&Node>
+    #[tactic(auto, unfolding(crate::specs::Tree::node_at))]
+    pub(crate) fn node(&self, number: u64) -> Option<&Node<Names>>
         ensures { option_copied result ≡ node_at self.now number }
     {
-        node_in(&self.nodes, number)
+        numbered(&self.nodes, number)
     }
 
     /// The node that the name stands for in the directory with this number, or the number of an error.
+    #[tactic(auto, unfolding(crate::specs::Tree::child_of))]
     pub(crate) fn child(&self, number: u64, name: &[u8]) -> Result<u64, u32>
         ensures { result ≡ child_of self.now number name.now }
     {
-        child_at(&self.nodes, number, name)
+        match self.node(number) {
+            None => Err(ENOENT),
+            Some(node) => node.child(name),
+        }
     }
 
     /// The names in the directory with this number, or the number of an error.
@@ -104,30 +109,18 @@ impl Tree {
     }
 }
 
-/// The node with this number.
-#[tactic(auto, unfolding(crate::specs::Tree::node_at))]
-fn node_in(nodes: &[Node], number: u64) -> Option<&Node>
-    ensures { option_copied result ≡ node_at nodes.now number }
+/// The element with this number, from 1 on.
+pub(crate) fn numbered<T>(elements: &[T], number: u64) -> Option<&T>
+    ensures { option_copied result ≡ (if number == 0 then None else slice_get elements.now (number - 1)) }
 {
     if number == 0 {
         None
     } else {
-        nodes.get((number - 1) as usize)
+        elements.get((number - 1) as usize)
     }
 }
 
-/// The node that the name stands for in the directory with this number, or the number of an error.
-#[tactic(auto, unfolding(crate::specs::Tree::child_of))]
-pub(crate) fn child_at(nodes: &[Node], number: u64, name: &[u8]) -> Result<u64, u32>
-    ensures { result ≡ child_of nodes.now number name.now }
-{
-    match node_in(nodes, number) {
-        None => Err(ENOENT),
-        Some(node) => node.child(name),
-    }
-}
-
-fn write_node(node: &mut Node, offset: usize, bytes: &[u8]) -> Result<(), AllocError>
+fn write_node(node: &mut Node<Names>, offset: usize, bytes: &[u8]) -> Result<(), AllocError>
     requires { offset + length bytes.now < 2 ^ 63 }
     ensures ok { OnOk result (node.new ≡ write_node node.old offset bytes.now) }
     ensures err { OnErr result (node.new ≡ node.old) }
@@ -140,7 +133,7 @@ fn write_node(node: &mut Node, offset: usize, bytes: &[u8]) -> Result<(), AllocE
 
 #[tactic(auto, unfolding(crate::specs::Tree::write_at, crate::specs::Tree::node_at))]
 fn write_in(
-    nodes: &mut Vec<Node>,
+    nodes: &mut Vec<Node<Names>>,
     number: u64,
     offset: usize,
     bytes: &[u8],

@@ -1,7 +1,7 @@
 use Rattle.std.proofs.Common.{◌≡◌, ◌∙◌, List, map, ap, subst, Ok}
 use Rattle.vub_dir.specs.Building.{content_of}
 use Rattle.vub_dir.specs.Tree.{child_of}
-use Rattle.vub_dir.specs.declared.node.Node.{Node}
+use Rattle.vub_dir.specs.Node.{Node}
 use Rattle.vub_dir.proofs.TreeFiles.{tree_files}
 use Rattle.vub_dir.proofs.TreeNames.{tree_named, tree_only}
 use Rattle.vub_dir.proofs.tree.Tree.new.Goals as goal
