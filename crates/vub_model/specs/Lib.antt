@@ -1,12 +1,14 @@
 pub mod Constants
 pub mod EntryNumber
 pub mod Frame
+pub mod Headline
 pub mod Held
 pub mod Opening
 pub mod RingRecord
 pub mod RunOf
 pub mod RunRecords
 pub mod Running
+pub mod Schedule
 pub mod Service
 pub mod ValidSetup
 pub mod Wiring

@@ -1,7 +1,7 @@
 -- The state in which a run of a set-up begins. A given ring that is ready and enabled, with a kick and a worker, is
 -- registered: its kick is claimed and joins its worker's interest list, the queue is pending, and the bell is rung. The
 -- kick of any other given ring is claimed alone.
-use Rattle.std.specs.Prelude.{ℕ, ◌+◌, Bool, false, ◌&&◌, ◌==◌, if◌then◌else◌, List, [], ◌∷◌, ◌++◌, length, map, slice_index_or, Option, Some, None, find, fold}
+use Rattle.std.specs.Prelude.{ℕ, ◌+◌, Bool, false, ◌&&◌, ◌==◌, if◌then◌else◌, List, [], ◌∷◌, ◌++◌, length, map, replicate, slice_index_or, Option, Some, None, find, fold}
 use Rattle.std.specs.List.{range_with_len}
 use Rattle.vub_queue.specs.Ring.{Ring}
 use Rattle.vub_queue.specs.declared.addresses.Addresses.{Addresses}
@@ -110,6 +110,11 @@ registered g h r = registered_kick g h r r.kick
 
 -- The opening
 
+-- none of an object's bytes was written
+abbrev pub unwritten : Object → List Bool
+unwritten (object.Event flags) = []
+unwritten (object.Content bytes) = replicate (length bytes) false
+
 abbrev pub opening_table : Constants → List Object → HostTable
 opening_table constants objects =
     record { objects = opening_events objects constants.masks; lists = map (λ w. opening_members constants.queues w) (wiring_of constants (length objects)).opened }
@@ -120,7 +125,7 @@ before_rings constants setup service =
 
 unfoldable pub opening : {V : Type 0} → Constants → Setup → V → World V
 opening constants setup service =
-    record { held = fold (λ h r. registered (wiring_of constants (length setup.objects)) h r) (before_rings constants setup service) setup.rings; wiring = wiring_of constants (length setup.objects); phases = map (λ mask. Idle) constants.masks; guest = setup.guest; takes = []; uses = []; written = [] }
+    record { held = fold (λ h r. registered (wiring_of constants (length setup.objects)) h r) (before_rings constants setup service) setup.rings; wiring = wiring_of constants (length setup.objects); phases = map (λ mask. Idle) constants.masks; guest = setup.guest; takes = []; uses = []; written = map unwritten setup.objects }
 
 -- the opening counts as the registration of the rings that it registers
 abbrev pub is_registered : List GivenRing → ℕ → Bool

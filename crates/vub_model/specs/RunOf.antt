@@ -1,10 +1,14 @@
 -- Runs of the machine: one label for each turn of a schedule.
-use Rattle.std.specs.Prelude.{◌≡◌, ℕ, ◌-◌, ◌==◌, if◌then◌else◌, List, [], ◌∷◌}
+use Rattle.std.specs.Prelude.{◌≡◌, ℕ, ◌-◌, ◌==◌, ◌≤◌, if◌then◌else◌, List, [], ◌∷◌, Contains}
+use Rattle.vub_event.specs.declared.ready.Ready.{Ready}
+use Rattle.vub_event.specs.HostTable.{ready_members}
 use Rattle.vub_model.specs.declared.label.Label.{Label}
 use Rattle.vub_model.specs.declared.label.Label.TheVariants as label
 use Rattle.vub_model.specs.declared.party.Party.{Party}
 use Rattle.vub_model.specs.declared.party.Party.TheVariants as party
 use Rattle.vub_model.specs.Service.{Meaning}
+use Rattle.vub_model.specs.Wiring.{Wiring, opened_at}
+use Rattle.vub_model.specs.Held.{Held}
 use Rattle.vub_model.specs.World.{World, May, after}
 
 -- party 0 is the guest, party 1 is control, and party 2 + w is worker w
@@ -20,6 +24,11 @@ abbrev pub Turn : {V : Type 0} → Meaning V → World V → Party → Label →
 Turn m old p label.Pass new = HasNoStep old p × (new ≡ old)
 Turn m old p l new = May old p l × (new ≡ after m old p l)
 
+-- the world after a turn
+abbrev pub next : {V : Type 0} → Meaning V → World V → Party → Label → World V
+next m w p label.Pass = w
+next m w p l = after m w p l
+
 -- these labels are a run for this schedule
 abbrev pub IsRun : {V : Type 0} → Meaning V → List ℕ → List Label → World V → World V → Type 0
 IsRun m [] [] old new = new ≡ old
@@ -30,3 +39,20 @@ IsRun m (turn ∷ turns) [] old new = ⊥
 -- no party has a step
 abbrev pub IsAtRest : {V : Type 0} → World V → Type 0
 IsAtRest w = (p : Party) → HasNoStep w p
+
+-- of several ready members this label polls the one with the least number
+abbrev pub IsLeastPoll : {V : Type 0} → Wiring → ℕ → Held V → Label → Type 0
+IsLeastPoll g worker h (label.Poll object) =
+    (r : Ready) → Contains (ready_members h.table (opened_at g worker).list) r → object ≤ r.object
+IsLeastPoll g worker h l = Unit {0}
+
+abbrev pub IsLeast : {V : Type 0} → World V → Party → Label → Type 0
+IsLeast w (party.Worker k) l = IsLeastPoll w.wiring k w.held l
+IsLeast w p l = Unit {0}
+
+-- each poll of a run does so
+abbrev pub PollsLeast : {V : Type 0} → Meaning V → List ℕ → List Label → World V → Type 0
+PollsLeast m [] labels w = Unit {0}
+PollsLeast m (turn ∷ turns) [] w = Unit {0}
+PollsLeast m (turn ∷ turns) (l ∷ labels) w =
+    IsLeast w (party_of turn) l × PollsLeast m turns labels (next m w (party_of turn) l)

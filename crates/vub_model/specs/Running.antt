@@ -1,8 +1,9 @@
 -- Entries in a worker's hand, queues that run, and queues that are calm.
-use Rattle.std.specs.Prelude.{◌≡◌, ℕ, Bool, true, false, ◌&&◌, ◌==◌, if◌then◌else◌, List, [], ◌∷◌, Some}
+use Rattle.std.specs.Prelude.{◌≡◌, ℕ, Bool, true, false, ◌&&◌, ◌==◌, if◌then◌else◌, List, [], ◌∷◌, Option, Some, None, Result, Ok, Err}
 use Rattle.std.specs.Int.{w16}
 use Rattle.vub_mem.specs.Place.{number_at}
 use Rattle.vub_queue.specs.Layout.{avail_index_at}
+use Rattle.vub_queue.specs.declared.putting.PutFault.{PutFault}
 use Rattle.vub_model.specs.declared.entry.Entry.{Entry}
 use Rattle.vub_model.specs.declared.flight.Flight.TheVariants as flight
 use Rattle.vub_model.specs.declared.label.Label.{Label}
@@ -18,9 +19,9 @@ use Rattle.vub_model.specs.RingRecord.{is_on, has_addresses}
 use Rattle.vub_model.specs.EntryNumber.{has_left}
 use Rattle.vub_model.specs.Held.{Held, ring_at}
 use Rattle.vub_model.specs.Wiring.{place_of}
-use Rattle.vub_model.specs.Work.{is_object}
-use Rattle.vub_model.specs.World.{World, phase_at, after}
-use Rattle.vub_model.specs.RunOf.{party_of}
+use Rattle.vub_model.specs.Work.{is_object, put_said}
+use Rattle.vub_model.specs.World.{World, phase_at}
+use Rattle.vub_model.specs.RunOf.{party_of, next}
 use Rattle.vub_model.specs.Service.{Meaning}
 
 -- the worker has stopped
@@ -62,8 +63,24 @@ signals_kick h [] queue = false
 signals_kick h (Store object offset bytes ∷ actions) queue = false
 signals_kick h (Signal object ∷ actions) queue = is_object (ring_at h queue).kick object
 
+-- the event is the kick of the queue
+abbrev pub is_kick : {V : Type 0} → Held V → ℕ → Option ℕ → Bool
+is_kick h queue None = false
+is_kick h queue (Some object) = is_object (ring_at h queue).kick object
+
+abbrev pub is_told : Result Bool PutFault → Bool
+is_told (Ok wanted) = wanted
+is_told (Err fault) = false
+
+-- A worker's step that begins in this phase signals the kick of the queue: it uses an entry and tells of it, and the event
+-- by which it tells is that kick.
+abbrev pub calls_kick : {V : Type 0} → Held V → Label → Phase → ℕ → Bool
+calls_kick h label.Put (Served e reply queues) queue = is_told (put_said h e reply) && is_kick h queue (ring_at h e.queue).call
+calls_kick h l phase queue = false
+
 abbrev pub signals : {V : Type 0} → World V → Party → Label → ℕ → Bool
 signals w party.Guest label.Guest queue = signals_kick w.held w.guest queue
+signals w (party.Worker k) l queue = calls_kick w.held l (phase_at w.phases k) queue
 signals w p l queue = false
 
 -- Calm: the kick was signalled, or its registration was accepted, and after the last such step there was none after
@@ -71,11 +88,6 @@ signals w p l queue = false
 abbrev pub calm_after : {V : Type 0} → World V → Party → Label → World V → (ℕ → Bool) → ℕ → Bool
 calm_after old p l new calm queue =
     if signals old p l queue then true else calm queue && (index_word new.held queue == index_word old.held queue)
-
--- the world after a turn
-abbrev pub next : {V : Type 0} → Meaning V → World V → Party → Label → World V
-next m w p label.Pass = w
-next m w p l = after m w p l
 
 -- which queues are calm at the end of a run
 abbrev pub calm_end : {V : Type 0} → Meaning V → List ℕ → List Label → World V → (ℕ → Bool) → ℕ → Bool

@@ -1,6 +1,7 @@
 -- The state of the machine with what a run records, which label a party may play, and what is after it.
-use Rattle.std.specs.Prelude.{◌≢◌, ℕ, Bool, List, [], ◌∷◌, ◌++◌, slice_index_or, slice_set, Result, Ok, Err}
-use Rattle.vub_mem.specs.Place.{store_at}
+use Rattle.std.specs.Prelude.{◌≢◌, ℕ, ◌+◌, Bool, nat_le, length, List, [], ◌∷◌, ◌++◌, slice_index_or, slice_set, Result, Ok, Err}
+use Rattle.vub_mem.specs.Memory as memory
+use Rattle.vub_mem.specs.Place.{content_of, store_at}
 use Rattle.vub_proto.specs.declared.used.Used.{Used}
 use Rattle.vub_queue.specs.declared.putting.PutFault.{PutFault}
 use Rattle.vub_model.specs.declared.cause.StopCause.TheVariants.{Exit}
@@ -18,7 +19,7 @@ use Rattle.vub_model.specs.Held.{Held, ring_at, raised}
 use Rattle.vub_model.specs.Service.{Meaning}
 use Rattle.vub_model.specs.Wiring.{Wiring}
 use Rattle.vub_model.specs.Work.{Local, MayWork, after_work, looked, put_said, is_live}
-use Rattle.vub_model.specs.Written.{Spot, put_spots, take_spots}
+use Rattle.vub_model.specs.Written.{Spot, put_spots, take_spots, with_spots}
 use Rattle.std.specs.Prelude.{if◌then◌else◌}
 
 pub record World (V : Type 0) : Type 0 where
@@ -28,10 +29,11 @@ pub record World (V : Type 0) : Type 0 where
   pub phases : List Phase
   -- the actions of the guest that are left
   pub guest : List Guest
-  -- what was taken, used and written so far, in order
+  -- what was taken and used so far, in order
   pub takes : List Take
   pub uses : List Used
-  pub written : List Spot
+  -- by object and place, whether takes and puts wrote the byte
+  pub written : List (List Bool)
 
 -- a worker that is not there has stopped
 abbrev pub phase_at : List Phase → ℕ → Phase
@@ -39,8 +41,13 @@ phase_at phases worker = slice_index_or phases worker (Stopped Exit)
 
 -- Guest
 
+-- the bytes are stored in a content, if they fit there
+unfoldable pub stored : memory.Guest → ℕ → ℕ → List ℕ → memory.Guest
+stored g object offset bytes =
+    if nat_le (offset + length bytes) (length (content_of g.contents object)) then store_at g object offset bytes else g
+
 abbrev pub acted : {V : Type 0} → Held V → Guest → Held V
-acted h (Store object offset bytes) = record h { guest = store_at h.guest object offset bytes }
+acted h (Store object offset bytes) = record h { guest = stored h.guest object offset bytes }
 acted h (Signal object) = raised h object
 
 abbrev pub after_guest : {V : Type 0} → World V → List Guest → World V
@@ -79,7 +86,7 @@ written_by h l phase = []
 
 abbrev pub after_local : {V : Type 0} → World V → ℕ → Label → Phase → Local V → World V
 after_local w worker l before local =
-    record w { held = local.held; phases = slice_set w.phases worker local.phase; takes = w.takes ++ takes_by l local.phase; uses = w.uses ++ uses_by w.held l before; written = w.written ++ written_by w.held l before }
+    record w { held = local.held; phases = slice_set w.phases worker local.phase; takes = w.takes ++ takes_by l local.phase; uses = w.uses ++ uses_by w.held l before; written = with_spots w.written (written_by w.held l before) }
 
 -- May and After
 

@@ -1,0 +1,127 @@
+-- The steps of a worker, case by case, and what each row of Event, Take and Put leads to.
+use Rattle.std.proofs.Common.{◌≡◌, ℕ, ◌<◌, ◌≤◌, Bool, true, false, cond, ◌==◌, List, [], ◌∷◌, length, slice_index, Option, is_some, Result, Ok, Err, nat_lt, refl}
+use Rattle.std.proofs.lemmas.Bool.{cond_both, ltb-true, ltb-false, eqb-true, eqb-false}
+use Rattle.vub_queue.specs.declared.chain.Chain.{Chain}
+use Rattle.vub_queue.specs.declared.damage.Damage.{Damage}
+use Rattle.vub_queue.specs.declared.putting.PutFault.{PutFault}
+use Rattle.vub_queue.specs.declared.took.Took.{Took}
+use Rattle.vub_queue.specs.declared.took.Took.TheVariants as took
+use Rattle.vub_queue.specs.Take.{guest_taken}
+use Rattle.vub_event.specs.HostTable.{members_at}
+use Rattle.vub_event.specs.InterestList.{member_of}
+use Rattle.vub_model.specs.declared.cause.StopCause.TheVariants.{Exit}
+use Rattle.vub_model.specs.declared.entry.Entry.{Entry}
+use Rattle.vub_model.specs.declared.label.Label.{Label}
+use Rattle.vub_model.specs.declared.label.Label.TheVariants as label
+use Rattle.vub_model.specs.declared.phase.Phase.{Phase}
+use Rattle.vub_model.specs.declared.phase.Phase.TheVariants.{Idle, Polled, Sweep, Heard, Serving, Taken, Served, Stopped}
+use Rattle.vub_model.specs.RingRecord.{is_on}
+use Rattle.vub_model.specs.Held.{Held, ring_at, count_at, counter_read, is_ready}
+use Rattle.vub_model.specs.Wiring.{Wiring, opened_at, queues_of}
+use Rattle.vub_model.specs.Work.{Local, MayWork, after_event, after_kick, after_bell, after_listener, after_take, after_took, after_none, is_object, has_token, is_live, looked}
+
+-- a worker's step is one of six
+pub work-cases : {V : Type 0} (g : Wiring) (k : ℕ) (h : Held V) (P : Phase → Label → Type 0)
+    → ((object : ℕ) → is_ready h.table (opened_at g k).list object ≡ true → P Idle (label.Poll object))
+    → ((object token : ℕ) → P (Polled object token) label.Event)
+    → P Sweep label.Sweep
+    → ((queues : List ℕ) → P (Serving queues) label.Take)
+    → ((e : Entry) (queues : List ℕ) → P (Taken e queues) label.Serve)
+    → ((e : Entry) (reply queues : List ℕ) → P (Served e reply queues) label.Put)
+    → (phase : Phase) (l : Label) → MayWork g k h phase l → P phase l
+work-cases g k h P poll event sweep take serve put Idle (label.Poll object) may = poll object may
+work-cases g k h P poll event sweep take serve put (Polled object token) label.Event may = event object token
+work-cases g k h P poll event sweep take serve put Sweep label.Sweep may = sweep
+work-cases g k h P poll event sweep take serve put (Serving queues) label.Take may = take queues
+work-cases g k h P poll event sweep take serve put (Taken e queues) label.Serve may = serve e queues
+work-cases g k h P poll event sweep take serve put (Served e reply queues) label.Put may = put e reply queues
+work-cases g k h P poll event sweep take serve put phase l may = absurd may
+
+module _ {V : Type 0} (h : Held V) (P : Local V → Type 0) where
+  pub kick-leaf : (q object : ℕ)
+      → (is_object (ring_at h q).kick object ≡ true → is_on (ring_at h q) ≡ true → P (record { held = counter_read h object; phase = Serving (q ∷ []) }))
+      → (is_object (ring_at h q).kick object ≡ true → is_on (ring_at h q) ≡ false → P (record { held = counter_read h object; phase = Idle }))
+      → (is_object (ring_at h q).kick object ≡ false → P (record { held = h; phase = Idle }))
+      → P (after_kick h q object)
+  kick-leaf q object serves drops stale =
+      cond_both {A = Local V} (is_object (ring_at h q).kick object) (record { held = counter_read h object; phase = cond (is_on (ring_at h q)) (Serving (q ∷ [])) Idle }) (record { held = h; phase = Idle }) P
+      (λ own. cond_both (is_on (ring_at h q)) (Serving (q ∷ [])) Idle (λ p. P (record { held = counter_read h object; phase = p })) (serves own) (drops own))
+      stale
+
+  pub bell-leaf : (bell : ℕ) (exit : Option ℕ)
+      → (nat_lt 0 (count_at h.table bell) ≡ true → P (record { held = counter_read h bell; phase = Sweep }))
+      → (nat_lt 0 (count_at h.table bell) ≡ false → is_some exit ≡ true → P (record { held = h; phase = Stopped Exit }))
+      → (nat_lt 0 (count_at h.table bell) ≡ false → is_some exit ≡ false → P (record { held = h; phase = Idle }))
+      → P (after_bell h bell exit)
+  bell-leaf bell exit sweeps ends stale =
+      cond_both {A = Local V} (nat_lt 0 (count_at h.table bell)) (record { held = counter_read h bell; phase = Sweep }) (record { held = h; phase = cond (is_some exit) (Stopped Exit) Idle }) P
+      sweeps
+      (λ zero. cond_both (is_some exit) (Stopped Exit) Idle (λ p. P (record { held = h; phase = p })) (ends zero) (stale zero))
+
+  pub listener-leaf : (list object token : ℕ)
+      → (has_token (member_of (members_at h.table list) object) token ≡ true → P (record { held = counter_read h object; phase = Heard token }))
+      → (has_token (member_of (members_at h.table list) object) token ≡ false → P (record { held = h; phase = Idle }))
+      → P (after_listener h list object token)
+  listener-leaf list object token hears stale =
+      cond_both {A = Local V} (has_token (member_of (members_at h.table list) object) token) (record { held = counter_read h object; phase = Heard token }) (record { held = h; phase = Idle }) P hears stale
+
+  -- an event is a kick, the bell or the exit object, or a listener
+  pub event-leaf : (g : Wiring) (k object token : ℕ)
+      → (token < length (queues_of g k) → P (after_kick h (slice_index (queues_of g k) token) object))
+      → (length (queues_of g k) ≤ token → token ≡ g.queues → P (after_bell h (opened_at g k).bell (opened_at g k).exit))
+      → (length (queues_of g k) ≤ token → (token ≡ g.queues → ⊥) → P (after_listener h (opened_at g k).list object token))
+      → P (after_event g k h object token)
+  event-leaf g k object token kick bell listener =
+      cond_both {A = Local V} (nat_lt token (length (queues_of g k))) (after_kick h (slice_index (queues_of g k) token) object) (cond (token == g.queues) (after_bell h (opened_at g k).bell (opened_at g k).exit) (after_listener h (opened_at g k).list object token)) P
+      (λ below. kick (ltb-true token (length (queues_of g k)) below))
+      (λ past. cond_both {A = Local V} (token == g.queues) (after_bell h (opened_at g k).bell (opened_at g k).exit) (after_listener h (opened_at g k).list object token) P
+      (λ same. bell (ltb-false token (length (queues_of g k)) past) (eqb-true token g.queues same))
+      (λ other. listener (ltb-false token (length (queues_of g k)) past) (eqb-false token g.queues other)))
+
+  took-leaf : (q : ℕ) (rest : List ℕ)
+      → ((c : Chain) → looked h q ≡ took.Entry c → P (after_took h q rest (took.Entry c)))
+      → (looked h q ≡ took.None → P (after_took h q rest took.None))
+      → ((d : Damage) → looked h q ≡ took.Damaged d → P (after_took h q rest (took.Damaged d)))
+      → (t : Took) → looked h q ≡ t → P (after_took h q rest t)
+  took-leaf q rest entry none damaged (took.Entry c) is = entry c is
+  took-leaf q rest entry none damaged took.None is = none is
+  took-leaf q rest entry none damaged (took.Damaged d) is = damaged d is
+
+  -- a Take finds an entry, nothing, or damage
+  pub take-leaf : (q : ℕ) (rest : List ℕ)
+      → ((c : Chain) → looked h q ≡ took.Entry c → P (after_took h q rest (took.Entry c)))
+      → (looked h q ≡ took.None → P (after_took h q rest took.None))
+      → ((d : Damage) → looked h q ≡ took.Damaged d → P (after_took h q rest (took.Damaged d)))
+      → P (after_take h (q ∷ rest))
+  take-leaf q rest entry none damaged = took-leaf q rest entry none damaged (looked h q) refl
+
+-- a Take that finds nothing leaves what is held, but for avail_event
+pub none-leaf : {V : Type 0} (h : Held V) (Q : Held V → Type 0) (q : ℕ)
+    → (is_live (ring_at h q) ≡ true → Q (record h { guest = guest_taken h.guest (ring_at h q).queue took.None }))
+    → (is_live (ring_at h q) ≡ false → Q h)
+    → Q (after_none h q)
+none-leaf {V} h Q q tells stays = cond_both {A = Held V} (is_live (ring_at h q)) (record h { guest = guest_taken h.guest (ring_at h q).queue took.None }) h Q tells stays
+
+-- an Event leaves what is held, or reads one counter
+pub event-held : {V : Type 0} (g : Wiring) (k : ℕ) (h : Held V) (Q : Held V → Type 0) (object token : ℕ) → Q h → ((o : ℕ) → Q (counter_read h o)) → Q (after_event g k h object token).held
+event-held {V} g k h Q object token stays reads =
+    let P : Local V → Type 0 = λ l. Q l.held in
+    event-leaf h P g k object token
+    (λ below. kick-leaf h P (slice_index (queues_of g k) token) object (λ own on. reads object) (λ own off. reads object) (λ other. stays))
+    (λ past same. bell-leaf h P (opened_at g k).bell (opened_at g k).exit (λ above. reads (opened_at g k).bell) (λ zero some. stays) (λ zero none. stays))
+    (λ past other. listener-leaf h P (opened_at g k).list object token (λ own. reads object) (λ stale. stays))
+
+-- the phase after an Event: what it may be
+pub event-phase : {V : Type 0} (g : Wiring) (k : ℕ) (h : Held V) (Q : Phase → Type 0) (object token : ℕ) → Q Idle → (token < length (queues_of g k) → Q (Serving (slice_index (queues_of g k) token ∷ []))) → Q Sweep → Q (Stopped Exit) → Q (Heard token) → Q (after_event g k h object token).phase
+event-phase {V} g k h Q object token idle serves sweeps ends hears =
+    let P : Local V → Type 0 = λ l. Q l.phase in
+    event-leaf h P g k object token
+    (λ below. kick-leaf h P (slice_index (queues_of g k) token) object (λ own on. serves below) (λ own off. idle) (λ other. idle))
+    (λ past same. bell-leaf h P (opened_at g k).bell (opened_at g k).exit (λ above. sweeps) (λ zero some. ends) (λ zero none. idle))
+    (λ past other. listener-leaf h P (opened_at g k).list object token (λ own. hears) (λ stale. idle))
+
+-- a Put is done, or refused
+pub said-cases : (said : Result Bool PutFault) (P : Result Bool PutFault → Type 0)
+    → ((wanted : Bool) → said ≡ Ok wanted → P (Ok wanted)) → ((fault : PutFault) → said ≡ Err fault → P (Err fault)) → P said
+said-cases (Ok wanted) P done refused = done wanted refl
+said-cases (Err fault) P done refused = refused fault refl

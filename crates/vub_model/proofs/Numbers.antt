@@ -1,0 +1,139 @@
+-- The takes of one queue and one epoch are numbered base, base + 1 and so on.
+use Rattle.std.proofs.Common.{◌≡◌, ℕ, suc, ◌+◌, Bool, true, false, inl, inr, List, [], ◌∷◌, ◌++◌, map, filter, Option, Some, None, refl, sym, ap, ◌∙◌, subst, arith, eqb, slice_index_or, slice_set}
+use Rattle.std.proofs.lemmas.List.{append-nil, map-append, get_or-set_same, get_or-set_other}
+use Rattle.std.proofs.lemmas.Bool.{cases_eq}
+use Rattle.vub_queue.specs.declared.chain.Chain.{Chain}
+use Rattle.vub_queue.specs.declared.took.Took.TheVariants as took
+use Rattle.vub_model.specs.declared.entry.Entry.{Entry}
+use Rattle.vub_model.specs.declared.label.Label.{Label}
+use Rattle.vub_model.specs.declared.label.Label.TheVariants as label
+use Rattle.vub_model.specs.declared.party.Party.{Party}
+use Rattle.vub_model.specs.declared.party.Party.TheVariants as party
+use Rattle.vub_model.specs.declared.phase.Phase.{Phase}
+use Rattle.vub_model.specs.declared.phase.Phase.TheVariants.{Idle, Polled, Sweep, Taken}
+use Rattle.vub_model.specs.declared.records.Take.{Take}
+use Rattle.vub_model.specs.declared.ring_op.RingOp.TheVariants as op
+use Rattle.vub_model.specs.declared.setup.Guest.{Guest}
+use Rattle.vub_model.specs.declared.setup.Guest.TheVariants.{Store, Signal}
+use Rattle.vub_model.specs.RingRecord.{Vring, closed_ring, changed, ring_after}
+use Rattle.vub_model.specs.Held.{Held, ring_at}
+use Rattle.vub_model.specs.Service.{Meaning}
+use Rattle.vub_model.specs.Wiring.{Wiring}
+use Rattle.vub_model.specs.Work.{Local, MayWork, after_work, after_take, after_took, after_put, after_said, called, used, entry_of, looked, put_said}
+use Rattle.vub_model.specs.World.{World, May, after, after_guest, phase_at, take_of, takes_by}
+use Rattle.vub_model.specs.RunOf.{IsRun, party_of}
+use Rattle.vub_model.specs.Headline.{takes_of, numbers, count_up, NumberAt, RingNumbered, Numbered, IsFresh}
+use Rattle.vub_model.proofs.Cases.{work-cases, event-held, take-leaf, none-leaf, said-cases}
+use Rattle.vub_model.proofs.Turns.{turn-cases}
+use Rattle.vub_model.proofs.Live.{looked-live, live-parts, live-taken, serving-takes}
+use Rattle.vub_model.proofs.Flow.{field-kept}
+use Rattle.vub_model.proofs.FlowSteps.{pushed, left_out, on-within}
+
+-- One epoch
+
+numbers-own : (epoch : ℕ) (takes : List Take) (t : Take) → t.epoch ≡ epoch → numbers epoch (takes ++ t ∷ []) ≡ numbers epoch takes ++ t.number ∷ []
+numbers-own epoch takes t own = ap (map (λ (t : Take). t.number)) (pushed (λ (t : Take). t.epoch) epoch takes t own) ∙ map-append (λ (t : Take). t.number) (filter (λ (t : Take). eqb t.epoch epoch) takes) (t ∷ [])
+
+numbers-other : (epoch : ℕ) (takes : List Take) (t : Take) → (t.epoch ≡ epoch → ⊥) → numbers epoch (takes ++ t ∷ []) ≡ numbers epoch takes
+numbers-other epoch takes t other = ap (map (λ (t : Take). t.number)) (left_out (λ (t : Take). t.epoch) epoch takes t other)
+
+-- one more take, with the next number
+pub number-take : (epoch base taken : ℕ) (takes : List Take) (t : Take) → t.epoch ≡ epoch → t.number ≡ base + taken → NumberAt epoch base taken takes → NumberAt epoch base (taken + 1) (takes ++ t ∷ [])
+number-take epoch base taken takes t own number at =
+    let more : numbers epoch (takes ++ t ∷ []) ≡ count_up base (suc taken) = numbers-own epoch takes t own ∙ (ap (λ ns. ns ++ t.number ∷ []) at.now ∙ ap (λ n. count_up base taken ++ n ∷ []) number) in
+    let next : taken + 1 ≡ suc taken = omega arith in
+    record {
+      now = rw next more;
+      none_later = λ e later. numbers-other e takes t (λ same. absurd (omega arith)) ∙ at.none_later e later;
+      each = λ e. elim (cases_eq epoch e) [
+        | inl same ↦ (base, suc taken, subst (λ e. numbers e (takes ++ t ∷ []) ≡ count_up base (suc taken)) same more)
+        | inr other ↦ (let old = at.each e in (old.0, old.1, numbers-other e takes t (λ same. other (sym own ∙ same)) ∙ old.2))
+      ];
+    }
+
+-- writing a ring that keeps epoch, base and taken keeps them at every queue
+pub same-numbers : (rings : List Vring) (p : ℕ) (r : Vring) (q : ℕ) (takes : List Take) → r.epoch ≡ (slice_index_or rings p closed_ring).epoch → r.base ≡ (slice_index_or rings p closed_ring).base → r.taken ≡ (slice_index_or rings p closed_ring).taken → RingNumbered (slice_index_or rings q closed_ring) takes → RingNumbered (slice_index_or (slice_set rings p r) q closed_ring) takes
+same-numbers rings p r q takes epoch base taken at =
+    rw (field-kept (λ (r : Vring). r.epoch) rings p r epoch q, field-kept (λ (r : Vring). r.base) rings p r base q, field-kept (λ (r : Vring). r.taken) rings p r taken q) at
+
+-- A worker's step
+
+-- of these rings and takes
+abbrev pub AllNumbered : List Vring → List Take → Type 0
+AllNumbered rings takes = (q : ℕ) → RingNumbered (slice_index_or rings q closed_ring) (takes_of q takes)
+
+module _ {V : Type 0} (g : Wiring) (h : Held V) (takes : List Take) (numbered : AllNumbered h.rings takes) where
+  -- what the takes are after a step that ends so
+  abbrev pub After : Label → Local V → Type 0
+  After l local = AllNumbered local.held.rings (takes ++ takes_by l local.phase)
+
+  still : (l : Label) (local : Local V) → takes_by l local.phase ≡ [] → local.held.rings ≡ h.rings → After l local
+  still l local none rings q = rw (rings, none, append-nil takes) (numbered q)
+
+  number-entry : (p : ℕ) (rest : List ℕ) (c : Chain) → looked h p ≡ took.Entry c → After label.Take (after_took h p rest (took.Entry c))
+  number-entry p rest c is =
+      let live = looked-live h p c is in
+      let r : Vring = changed (ring_at h p) op.Taken in
+      let t : Take = take_of (entry_of p (ring_at h p) c) in
+      let S : Vring → Type 0 = λ r. AllNumbered (slice_set h.rings p r) (takes ++ t ∷ []) in
+      let P : ℕ → Type 0 = λ q. RingNumbered (slice_index_or (slice_set h.rings p r) q closed_ring) (takes_of q (takes ++ t ∷ [])) in
+      let here : P p = rw (get_or-set_same h.rings p r closed_ring (on-within h.rings p (live-parts (ring_at h p) live).0), pushed (λ (t : Take). t.queue) p takes t refl) (number-take (ring_at h p).epoch (ring_at h p).base (ring_at h p).taken (takes_of p takes) t refl refl (numbered p)) in
+      let all : S r = λ q. elim (cases_eq q p) [
+        | inl same ↦ subst P (sym same) here
+        | inr other ↦ rw (get_or-set_other h.rings p q r closed_ring other, left_out (λ (t : Take). t.queue) q takes t (λ e. other (sym e))) (numbered q)
+      ] in
+      subst S (sym (live-taken (ring_at h p) live)) all
+
+  number-take-step : (queues : List ℕ) → After label.Take (after_take h queues)
+  number-take-step [] = still label.Take (after_take h []) refl refl
+  number-take-step (p ∷ rest) =
+      take-leaf h (After label.Take) p rest
+      (number-entry p rest)
+      (λ is. still label.Take (after_took h p rest took.None) (serving-takes rest) (none-leaf h (λ x. x.rings ≡ h.rings) p (λ live. refl) (λ dead. refl)))
+      (λ d is. still label.Take (after_took h p rest (took.Damaged d)) refl refl)
+
+  called-rings : (held : Held V) (call : Option ℕ) (wanted : Bool) → (called held call wanted).rings ≡ held.rings
+  called-rings held call false = refl
+  called-rings held None true = refl
+  called-rings held (Some object) true = refl
+
+  number-put : (e : Entry) (reply queues : List ℕ) → After label.Put (after_put h e reply queues)
+  number-put e reply queues =
+      said-cases (put_said h e reply) (λ said. After label.Put (after_said h e reply queues said))
+      (λ wanted is q. rw (called-rings (used h e reply) (ring_at h e.queue).call wanted, append-nil takes) (same-numbers h.rings e.queue (ring_after (ring_at h e.queue) op.Put) q (takes_of q takes) refl refl refl (numbered q)))
+      (λ fault is q. rw (append-nil takes) (same-numbers h.rings e.queue (ring_after (ring_at h e.queue) op.Hold) q (takes_of q takes) refl refl refl (numbered q)))
+
+  pub number-work : (m : Meaning V) (k : ℕ) (phase : Phase) (l : Label) → MayWork g k h phase l → After l (after_work m g k h phase l)
+  number-work m k =
+      work-cases g k h (λ phase l. After l (after_work m g k h phase l))
+      (λ object ready. still (label.Poll object) (after_work m g k h Idle (label.Poll object)) refl refl)
+      (λ object token. still label.Event (after_work m g k h (Polled object token) label.Event) refl (event-held g k h (λ x. x.rings ≡ h.rings) object token refl (λ o. refl)))
+      (still label.Sweep (after_work m g k h Sweep label.Sweep) refl refl)
+      number-take-step
+      (λ e queues. still label.Serve (after_work m g k h (Taken e queues) label.Serve) refl refl)
+      number-put
+
+-- A turn, and a run
+
+module _ {V : Type 0} (m : Meaning V) (w : World V) (numbered : Numbered w) where
+  number-guest : (actions : List Guest) → Numbered (after_guest w actions)
+  number-guest [] = numbered
+  number-guest (Store object offset bytes ∷ actions) = numbered
+  number-guest (Signal object ∷ actions) = numbered
+
+  number-step : (p : Party) (l : Label) → May w p l → Numbered (after m w p l)
+  number-step party.Guest label.Guest may = number-guest w.guest
+  number-step (party.Worker k) l may = number-work w.wiring w.held w.takes numbered m k (phase_at w.phases k) l may
+  number-step p l may = absurd may
+
+pub number-run : {V : Type 0} (m : Meaning V) (turns : List ℕ) (labels : List Label) (w z : World V) → Numbered w → IsRun m turns labels w z → Numbered z
+number-run {V} m [] [] w z numbered run = subst (λ (x : World V). Numbered x) (sym run) numbered
+number-run m [] (l ∷ labels) w z numbered run = absurd run
+number-run m (turn ∷ turns) [] w z numbered run = absurd run
+number-run {V} m (turn ∷ turns) (l ∷ labels) w z numbered run =
+    let P : World V → Type 0 = λ x. Numbered x in
+    let mid : Numbered run.0 = turn-cases m w (party_of turn) run.0 (λ l. Numbered run.0) (λ same. subst P (sym same) numbered) (λ l may is. subst P (sym is) (number-step m w numbered (party_of turn) l may)) l run.1 in
+    number-run m turns labels run.0 z mid run.2
+
+pub fresh-numbered : {V : Type 0} (w : World V) → IsFresh w → Numbered w
+fresh-numbered w fresh q = rw (fresh.no_takes, fresh.untaken q) (record { now = refl; none_later = λ e later. refl; each = λ e. (0, 0, refl) })

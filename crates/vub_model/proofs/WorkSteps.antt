@@ -1,0 +1,135 @@
+-- The steps of a worker, case by case, and what each of them leads to.
+use Rattle.std.proofs.Common.{◌≡◌, ℕ, Bool, true, false, cond, not, ◌&&◌, inl, inr, List, [], ◌∷◌, length, Option, is_some, Result, Ok, Err, refl, subst, arith, eqb, nat_lt}
+use Rattle.std.proofs.lemmas.Bool.{cond_both, lt-ltb, le-ltb, ltb-false, eq-eqb}
+use Rattle.vub_queue.specs.declared.chain.Chain.{Chain}
+use Rattle.vub_queue.specs.declared.took.Took.{Took}
+use Rattle.vub_queue.specs.declared.took.Took.TheVariants as took
+use Rattle.vub_queue.specs.declared.damage.Damage.{Damage}
+use Rattle.vub_queue.specs.declared.putting.PutFault.{PutFault}
+use Rattle.vub_queue.specs.Function.{took_of}
+use Rattle.vub_queue.specs.Take.{IsEmpty, Taken as TakenSo}
+use Rattle.vub_queue.proofs.Walks.{takes_some}
+use Rattle.vub_model.specs.declared.cause.Why.TheVariants as why
+use Rattle.vub_model.specs.declared.cause.StopCause.TheVariants.{Exit}
+use Rattle.vub_model.specs.declared.entry.Entry.{Entry}
+use Rattle.vub_model.specs.declared.label.Label.{Label}
+use Rattle.vub_model.specs.declared.label.Label.TheVariants as label
+use Rattle.vub_model.specs.declared.phase.Phase.{Phase}
+use Rattle.vub_model.specs.declared.phase.Phase.TheVariants.{Idle, Polled, Sweep, Serving, Taken, Served, Stopped}
+use Rattle.vub_model.specs.declared.ring_op.RingOp.TheVariants as op
+use Rattle.vub_model.specs.RingRecord.{Vring, is_on, has_addresses, is_in_flight, limit, changed}
+use Rattle.vub_model.specs.Held.{Held, ring_at, with_ring, count_at, counter_read}
+use Rattle.vub_model.specs.Wiring.{Wiring, opened_at, queues_of}
+use Rattle.vub_model.specs.Work.{Local, MayWork, serving, stopped, is_object, after_kick, after_bell, after_event, is_live, looked, entry_of, after_none, after_took, after_take, put_said, why_of, used, called, after_put, after_said}
+use Rattle.vub_model.specs.Schedule.{IsPlaced, PhaseFits}
+use Rattle.vub_model.proofs.Places.{slot, few-queues}
+
+-- a worker's step is one of six
+pub work-cases : {V : Type 0} (g : Wiring) (worker : ℕ) (h : Held V) (P : Phase → Label → Type 0)
+    → ((object : ℕ) → MayWork g worker h Idle (label.Poll object) → P Idle (label.Poll object))
+    → ((object token : ℕ) → P (Polled object token) label.Event)
+    → P Sweep label.Sweep
+    → ((queues : List ℕ) → P (Serving queues) label.Take)
+    → ((e : Entry) (queues : List ℕ) → P (Taken e queues) label.Serve)
+    → ((e : Entry) (reply queues : List ℕ) → P (Served e reply queues) label.Put)
+    → (phase : Phase) (l : Label) → MayWork g worker h phase l → P phase l
+work-cases g worker h P poll event sweep take serve put Idle (label.Poll object) may = poll object may
+work-cases g worker h P poll event sweep take serve put (Polled object token) label.Event may = event object token
+work-cases g worker h P poll event sweep take serve put Sweep label.Sweep may = sweep
+work-cases g worker h P poll event sweep take serve put (Serving queues) label.Take may = take queues
+work-cases g worker h P poll event sweep take serve put (Taken e queues) label.Serve may = serve e queues
+work-cases g worker h P poll event sweep take serve put (Served e reply queues) label.Put may = put e reply queues
+work-cases g worker h P poll event sweep take serve put phase l may = absurd may
+
+-- what is_live asks
+pub record Live (r : Vring) : Type 0 where
+  pub on : is_on r ≡ true
+  pub addresses : has_addresses r ≡ true
+  pub free : is_in_flight r.flight ≡ false
+  pub few : nat_lt r.taken limit ≡ true
+
+live-if : (a b c d : Bool) → a && b && not c && d ≡ true → (a ≡ true) × (b ≡ true) × (c ≡ false) × (d ≡ true)
+live-if true true false true h = (refl, refl, refl, refl)
+live-if true true false false h = absurd cc
+live-if true true true d h = absurd cc
+live-if true false c d h = absurd cc
+live-if false b c d h = absurd cc
+
+pub live-parts : (r : Vring) → is_live r ≡ true → Live r
+live-parts r h =
+    let all = live-if (is_on r) (has_addresses r) (is_in_flight r.flight) (nat_lt r.taken limit) h in
+    record { on = all.0; addresses = all.1; free = all.2; few = all.3 }
+
+pub live-from : (r : Vring) → Live r → is_live r ≡ true
+live-from r l = rw (l.on, l.addresses, l.free, l.few) refl
+
+-- what an op leaves that fits and does not wait
+abbrev pub taken-ring : Vring → Vring
+taken-ring r = changed r op.Taken
+
+module _ {V : Type 0} (g : Wiring) (worker : ℕ) (h : Held V) (P : Local V → Type 0) where
+  kick-leaf : (queue object : ℕ)
+      → (is_object (ring_at h queue).kick object ≡ true → P (record { held = counter_read h object; phase = cond (is_on (ring_at h queue)) (Serving (queue ∷ [])) Idle }))
+      → P (record { held = h; phase = Idle }) → P (after_kick h queue object)
+  kick-leaf queue object reads stale =
+      cond_both (is_object (ring_at h queue).kick object) (record { held = counter_read h object; phase = cond (is_on (ring_at h queue)) (Serving (queue ∷ [])) Idle }) (record { held = h; phase = Idle }) P reads (λ other. stale)
+
+  bell-leaf : (bell : ℕ) (exit : Option ℕ)
+      → P (record { held = counter_read h bell; phase = Sweep })
+      → (count_at h.table bell ≡ 0 → P (record { held = h; phase = cond (is_some exit) (Stopped Exit) Idle })) → P (after_bell h bell exit)
+  bell-leaf bell exit sweeps silent =
+      cond_both (nat_lt 0 (count_at h.table bell)) (record { held = counter_read h bell; phase = Sweep }) (record { held = h; phase = cond (is_some exit) (Stopped Exit) Idle }) P (λ above. sweeps) (λ none. silent (let low = ltb-false 0 (count_at h.table bell) none in omega arith))
+
+  -- an event is a kick, that is read or stale, or the bell
+  pub event-leaf : (object token : ℕ) → PhaseFits g worker (Polled object token)
+      → ((queue : ℕ) → IsPlaced g queue worker token → is_object (ring_at h queue).kick object ≡ true → P (record { held = counter_read h object; phase = cond (is_on (ring_at h queue)) (Serving (queue ∷ [])) Idle }))
+      → P (record { held = h; phase = Idle })
+      → P (record { held = counter_read h (opened_at g worker).bell; phase = Sweep })
+      → (count_at h.table (opened_at g worker).bell ≡ 0 → P (record { held = h; phase = cond (is_some (opened_at g worker).exit) (Stopped Exit) Idle }))
+      → P (after_event g worker h object token)
+  event-leaf object token (inl is) reads stale sweeps silent =
+      let past : nat_lt token (length (queues_of g worker)) ≡ false = le-ltb token (length (queues_of g worker)) (omega (arith, few-queues g worker, is)) in
+      let here : eqb token g.queues ≡ true = eq-eqb token g.queues is in
+      rw (past, here) (bell-leaf (opened_at g worker).bell (opened_at g worker).exit sweeps silent)
+  event-leaf object token (inr number) reads stale sweeps silent =
+      let at = slot g number.0 worker token number.1 in
+      let below : nat_lt token (length (queues_of g worker)) ≡ true = lt-ltb token (length (queues_of g worker)) at.0 in
+      rw (below, at.1) (kick-leaf number.0 object (reads number.0 number.1) stale)
+
+  -- a take finds an entry of a live ring, or nothing, or damage
+  took-leaf : (queue : ℕ) (rest : List ℕ)
+      → ((c : Chain) → Live (ring_at h queue) → P (record { held = with_ring h queue (taken-ring (ring_at h queue)); phase = Taken (entry_of queue (ring_at h queue) c) (queue ∷ rest) }))
+      → ((Live (ring_at h queue) → IsEmpty h.guest (ring_at h queue).queue) → P (record { held = after_none h queue; phase = serving rest }))
+      → ((d : Damage) → P (record { held = h; phase = stopped (why.Damage d) }))
+      → (b : Bool) → is_live (ring_at h queue) ≡ b → (t : Took) → TakenSo h.guest (ring_at h queue).queue (took_of h.guest (ring_at h queue).queue) → cond b (took_of h.guest (ring_at h queue).queue) took.None ≡ t → P (after_took h queue rest t)
+  took-leaf queue rest entry none damaged true live (took.Entry c) so is =
+      let l = live-parts (ring_at h queue) live in
+      rw (l.free, l.few) (entry c l)
+  took-leaf queue rest entry none damaged true live took.None so is = none (λ l. (let T : Took → Type 0 = λ t. TakenSo h.guest (ring_at h queue).queue t in subst T is so).0)
+  took-leaf queue rest entry none damaged true live (took.Damaged d) so is = damaged d
+  took-leaf queue rest entry none damaged false live (took.Entry c) so is = absurd cc
+  took-leaf queue rest entry none damaged false live took.None so is = none (λ l. let yes = live-from (ring_at h queue) l in absurd cc)
+  took-leaf queue rest entry none damaged false live (took.Damaged d) so is = absurd cc
+
+  pub take-leaf : (queue : ℕ) (rest : List ℕ)
+      → ((c : Chain) → Live (ring_at h queue) → P (record { held = with_ring h queue (taken-ring (ring_at h queue)); phase = Taken (entry_of queue (ring_at h queue) c) (queue ∷ rest) }))
+      → ((Live (ring_at h queue) → IsEmpty h.guest (ring_at h queue).queue) → P (record { held = after_none h queue; phase = serving rest }))
+      → ((d : Damage) → P (record { held = h; phase = stopped (why.Damage d) }))
+      → P (after_take h (queue ∷ rest))
+  unfolding looked
+  take-leaf queue rest entry none damaged =
+      took-leaf queue rest entry none damaged (is_live (ring_at h queue)) refl (looked h queue) (takes_some h.guest (ring_at h queue).queue) refl
+
+  -- a put is done or refused
+  said-leaf : (e : Entry) (reply queues : List ℕ) (said : Result Bool PutFault)
+      → ((wanted : Bool) → P (record { held = called (used h e reply) (ring_at h e.queue).call wanted; phase = serving queues }))
+      → ((fault : PutFault) → P (record { held = with_ring h e.queue (changed (ring_at h e.queue) op.Hold); phase = stopped (why_of fault) }))
+      → P (after_said h e reply queues said)
+  said-leaf e reply queues (Ok wanted) done refused = done wanted
+  said-leaf e reply queues (Err fault) done refused = refused fault
+
+  pub put-leaf : (e : Entry) (reply queues : List ℕ)
+      → ((wanted : Bool) → P (record { held = called (used h e reply) (ring_at h e.queue).call wanted; phase = serving queues }))
+      → ((fault : PutFault) → P (record { held = with_ring h e.queue (changed (ring_at h e.queue) op.Hold); phase = stopped (why_of fault) }))
+      → P (after_put h e reply queues)
+  put-leaf e reply queues done refused = said-leaf e reply queues (put_said h e reply) done refused
