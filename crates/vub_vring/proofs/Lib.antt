@@ -1,0 +1,9 @@
+pub mod Holding
+pub mod Numbers
+pub mod Places
+pub mod Saying
+pub mod Settling
+pub mod Storing
+pub mod Takes
+pub mod Using
+pub mod Working

@@ -1,0 +1,44 @@
+-- What a store of all parts but the service holds, and what its calls do to its rings, its memory and its host.
+use Rattle.std.specs.Prelude.{◌≡◌, ℕ, List, [], ◌∷◌, slice_index_or, slice_set}
+use Rattle.vub_mem.specs.Memory.{Guest}
+use Rattle.vub_queue.specs.declared.chain.Chain.{Chain}
+use Rattle.vub_model.specs.RingRecord.{Vring, closed_ring}
+use Rattle.vub_model.specs.Held.{Held}
+use Rattle.vub_vring.specs.declared.ops.TableRingSaid.{TableRingSaid}
+use Rattle.vub_vring.specs.declared.ops.PutSaid.{PutSaid}
+use Rattle.vub_vring.specs.declared.ops.PendOp.{PendOp}
+use Rattle.vub_vring.specs.declared.ops.PendOp.TheVariants as pend
+use Rattle.vub_vring.specs.declared.ops.PendSaid.{PendSaid}
+use Rattle.vub_vring.specs.declared.store.Store.{Store}
+use Rattle.vub_vring.specs.Play.{TakePlays, PutPlays, PendPlays}
+
+abbrev pub held_of : {L V : Type 0} → Store L → V → Held V
+held_of s v = record { guest = s.memory.guest; rings = s.rings.items; table = s.host.table; pending = s.pending.items; service = v }
+
+-- the ring of a queue; one that is not there is closed
+abbrev pub ring_in : List Vring → ℕ → Vring
+ring_in rings queue = slice_index_or rings queue closed_ring
+
+-- the pending set of a worker; one that is not there is empty
+abbrev pub pending_in : List (List ℕ) → ℕ → List ℕ
+pending_in sets worker = slice_index_or sets worker []
+
+-- a take from the ring of a queue
+abbrev pub TakesAt : ℕ → TableRingSaid → List Vring → Guest → List Vring → Guest → Type 0
+TakesAt queue said rings g after guest =
+    (ring : Vring) × TakePlays said (ring_in rings queue) g ring guest × (after ≡ slice_set rings queue ring)
+
+-- a use of an entry of a queue
+abbrev pub PutsAt : ℕ → Chain → List ℕ → PutSaid → List Vring → Guest → List Vring → Guest → Type 0
+PutsAt queue c reply said rings g after guest =
+    (ring : Vring) × PutPlays c reply said (ring_in rings queue) g ring guest × (after ≡ slice_set rings queue ring)
+
+-- what an op would leave of an empty set
+abbrev pub left_by : PendOp → List ℕ
+left_by (pend.Insert n) = n ∷ []
+left_by o = []
+
+-- a change of a worker's pending set
+abbrev pub PendsAt : ℕ → PendOp → PendSaid → List (List ℕ) → List (List ℕ) → Type 0
+PendsAt worker o said sets after =
+    (set : List ℕ) × PendPlays o said (pending_in sets worker) set × (after ≡ slice_set sets worker set)

@@ -1,0 +1,86 @@
+-- A worker that is opened: what is held with its interest list and its bell, and why it can't be opened.
+use Rattle.std.specs.Prelude.{◌≡◌, ℕ, ◌≤◌, true, if◌then◌else◌, [], ◌∷◌, ◌++◌, length, slice_index_or, Option, Some, None, is_none, Result, IfErr}
+use Rattle.vub_base.specs.Causes.{Rose}
+use Rattle.vub_base.specs.Told.{Told}
+use Rattle.vub_event.specs.declared.member.Member.{Member}
+use Rattle.vub_event.specs.HostTable.{HostTable, has_event}
+use Rattle.vub_event.specs.HostCalls.{new_event, create_list_after, create_event_after, add_refusal, add_after}
+use Rattle.vub_model.specs.declared.cause.VringEpollError.{VringEpollError}
+use Rattle.vub_model.specs.declared.cause.VringEpollError.TheVariants.{EpollCreateFd, RegisterExitEvent, NewEventConsumerNotifier, RegisterVringEnabledEvent, OutOfMemory}
+use Rattle.vub_model.specs.declared.constants.Constants.{Constants}
+use Rattle.vub_model.specs.declared.wiring.Opened.{Opened}
+use Rattle.vub_model.specs.Held.{Held}
+use Rattle.vub_model.specs.Opening.{listed, opening_members}
+use Rattle.vub_vring.specs.declared.ops.PartsError.{PartsError}
+use Rattle.vub_vring.specs.declared.ops.PartsError.TheVariants as parts_error
+use Rattle.vub_vring.specs.declared.ops.HostSaid.{HostSaid}
+use Rattle.vub_vring.specs.declared.ops.HostSaid.TheVariants.{Number}
+
+-- the exit object of a worker, if it has one
+abbrev pub exit_in : Constants → ℕ → Option ℕ
+exit_in constants worker = slice_index_or constants.exits worker None
+
+-- the exit object is there
+abbrev pub HasExit : HostTable → Option ℕ → Type 0
+HasExit table None = Unit {0}
+HasExit table (Some exit) = has_event table exit ≡ true
+
+-- The table with one worker more: a new list, whose members are the exit object, if there is one, and a new event, the
+-- bell, both under the number of queues.
+abbrev pub with_worker : HostTable → ℕ → Opened → HostTable
+with_worker table queues w =
+    record { objects = table.objects ++ Some (new_event 0) ∷ []; lists = table.lists ++ opening_members queues w ∷ [] }
+
+abbrev pub Opens : {V : Type 0} → ℕ → Opened → Held V → Held V → Type 0
+Opens queues w old new =
+    HasExit old.table w.exit → (w.list ≡ length old.table.lists) × (w.bell ≡ length old.table.objects) × (new ≡ record old { table = with_worker old.table queues w })
+
+-- the worker of this number, by the device's constants, where what is held is told
+abbrev pub OpensFor : {V : Type 0} → Constants → ℕ → Opened → Option (Held V) → Option (Held V) → Type 0
+OpensFor constants worker w old new = (w.exit ≡ exit_in constants worker) × Told old new (Opens constants.queues w)
+
+-- The steps to it
+
+-- the number that the host gave; where it gave none, one that no object and no list has
+abbrev pub number_of : HostSaid → ℕ
+number_of (Number n) = n
+number_of said = 4294967295
+
+abbrev pub MakesList : {V : Type 0} → ℕ → Held V → Held V → Type 0
+MakesList n old new = (n ≡ length old.table.lists) × (new ≡ record old { table = create_list_after old.table })
+
+abbrev pub MakesBell : {V : Type 0} → ℕ → Held V → Held V → Type 0
+MakesBell n old new = (n ≡ length old.table.objects) × (new ≡ record old { table = create_event_after old.table 0x800 })
+
+-- a member is added, unless it is refused
+abbrev pub joined_table : HostTable → ℕ → Member → HostTable
+joined_table table list m = if is_none (add_refusal table list m) then add_after table list m else table
+
+abbrev pub Joins : {V : Type 0} → ℕ → Member → Held V → Held V → Type 0
+Joins list m old new = new ≡ record old { table = joined_table old.table list m }
+
+-- the exit object, if there is one, under this token
+abbrev pub JoinsExit : {V : Type 0} → ℕ → Option ℕ → ℕ → Held V → Held V → Type 0
+JoinsExit list None token old new = new ≡ old
+JoinsExit list (Some exit) token old new = Joins list (listed exit token) old new
+
+-- Why a worker can't be opened: a fault of the host, named by the call that failed, or want of memory.
+abbrev pub IsOpeningFault : ℕ → ℕ → VringEpollError → Type 0
+IsOpeningFault before now EpollCreateFd = Rose before now
+IsOpeningFault before now RegisterExitEvent = Rose before now
+IsOpeningFault before now NewEventConsumerNotifier = Rose before now
+IsOpeningFault before now RegisterVringEnabledEvent = Rose before now
+IsOpeningFault before now OutOfMemory = Unit {0}
+IsOpeningFault before now e = ⊥
+
+-- the count of the host's faults, over a host that may be sound
+pub record OpensBy {T : Type 0} (before now : ℕ) (Sound StillSound : Type 0) (result : Result T VringEpollError) : Type 0 where
+  pub later : before ≤ now
+  pub cause : IfErr result (IsOpeningFault before now)
+  pub still : Sound → StillSound
+  pub sound : Sound → IfErr result (λ e. e ≡ OutOfMemory)
+
+-- the error for a call of the parts that was not made
+abbrev pub error_of : PartsError → VringEpollError → VringEpollError
+error_of parts_error.Fault fault = fault
+error_of parts_error.OutOfMemory fault = OutOfMemory

@@ -1,0 +1,93 @@
+//! A call of a host, as the parts make it.
+ghost use Rattle.std.specs.Prelude.{◌≡◌, IfOk};
+ghost use Rattle.vub_vring.specs.Calls.{IsSaid};
+ghost use Rattle.vub_vring.specs.Faults.{CountsFaults};
+ghost use Rattle.vub_vring.specs.Play.{OnTable, HostPlays, said_by, said_refused};
+
+use crate::ops::{HostOp, HostSaid, PartsError};
+use std::alloc::Global;
+use vub_event::{Host, HostError, Ready};
+
+fn refused(error: HostError) -> Result<HostSaid, PartsError>
+    ensures { result ≡ said_refused error }
+{
+    match error {
+        HostError::Failed => Err(PartsError::Fault),
+        HostError::OutOfMemory => Err(PartsError::OutOfMemory),
+        _ => Ok(HostSaid::Refused(error)),
+    }
+}
+
+fn number(answer: Result<u32, HostError>) -> Result<HostSaid, PartsError>
+    ensures { result ≡ said_by (λ n. HostSaid.Number n) answer }
+{
+    match answer {
+        Ok(number) => Ok(HostSaid::Number(number)),
+        Err(error) => refused(error),
+    }
+}
+
+fn done(answer: Result<(), HostError>) -> Result<HostSaid, PartsError>
+    ensures { result ≡ said_by (λ done. HostSaid.Done) answer }
+{
+    match answer {
+        Ok(()) => Ok(HostSaid::Done),
+        Err(error) => refused(error),
+    }
+}
+
+fn count(answer: Result<u64, HostError>) -> Result<HostSaid, PartsError>
+    ensures { result ≡ said_by (λ n. HostSaid.Count n) answer }
+{
+    match answer {
+        Ok(count) => Ok(HostSaid::Count(count)),
+        Err(error) => refused(error),
+    }
+}
+
+fn member(answer: Result<bool, HostError>) -> Result<HostSaid, PartsError>
+    ensures { result ≡ said_by (λ b. HostSaid.Member b) answer }
+{
+    match answer {
+        Ok(is_member) => Ok(HostSaid::Member(is_member)),
+        Err(error) => refused(error),
+    }
+}
+
+pub(crate) fn ready(answer: Result<Option<Ready>, HostError>) -> Result<HostSaid, PartsError>
+    ensures { result ≡ said_by (λ found. HostSaid.Ready found) answer }
+{
+    match answer {
+        Ok(found) => Ok(HostSaid::Ready(found)),
+        Err(error) => refused(error),
+    }
+}
+
+/// Makes this call of the host.
+///
+/// # Errors
+/// `Fault` only where the host's count of faults rose; want of memory for the calls that may answer it. Nothing changes.
+#[tactic(auto, using(crate::proofs::Saying::create_event_says, crate::proofs::Saying::create_list_says, crate::proofs::Saying::signal_says, crate::proofs::Saying::consume_says, crate::proofs::Saying::add_says, crate::proofs::Saying::delete_says, crate::proofs::Saying::listen_says, crate::proofs::Saying::unlisten_says, crate::proofs::Saying::consume_as_says, crate::proofs::Saying::ready_says, crate::proofs::Saying::claim_says, crate::proofs::Saying::said_is, crate::proofs::Saying::counts_said))]
+pub fn play_host<H: Host>(alloc: Global, host: &mut H, op: HostOp) -> Result<HostSaid, PartsError>
+    ensures table { OnTable result (H.held host.old) (H.held host.new) (HostPlays op) }
+    ensures said { IfOk result IsSaid }
+    ensures faults { CountsFaults (H.fault_count host.old) (H.fault_count host.new) (H.never_fails host.old) (H.never_fails host.new) result }
+{
+    match op {
+        HostOp::CreateEvent(flags) => number(host.create_event(alloc, flags)),
+        HostOp::CreateList => number(host.create_list(alloc)),
+        HostOp::Signal(object, value) => done(host.signal(object, value)),
+        HostOp::Consume(object) => count(host.consume(object)),
+        HostOp::Add(list, object, set, token) => done(host.add(alloc, list, object, set, token)),
+        HostOp::Delete(list, object) => done(host.delete(list, object)),
+        HostOp::Listen(list, object, token) => done(host.listen(alloc, list, object, token)),
+        HostOp::Unlisten(list, object, above) => done(host.unlisten(list, object, above)),
+        HostOp::ConsumeAs(list, object, token) => member(host.consume_as(list, object, token)),
+        HostOp::Ready(list) => ready(host.ready(list)),
+        HostOp::Claim(object, queue) => done(host.claim(object, queue)),
+        HostOp::Release(object) => {
+            host.release(object);
+            Ok(HostSaid::Done)
+        }
+    }
+}

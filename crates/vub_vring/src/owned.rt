@@ -1,0 +1,116 @@
+ghost use Rattle.std.specs.Prelude.{◌≡◌, ◌⊎◌, ◌≤◌, ℕ, [], Some, IfOk, length};
+ghost use Rattle.vub_base.specs.Causes.{Rose};
+ghost use Rattle.vub_model.specs.Held.{Held};
+ghost use Rattle.vub_vring.specs.Calls.{Called, HasRoom, IsSaid};
+ghost use Rattle.vub_vring.specs.Faults.{CountsFaults};
+ghost use Rattle.vub_vring.specs.Store.{held_of};
+
+use crate::ops::{
+    HostOp, HostSaid, KickSaid, PartsError, PendOp, PendSaid, PutSaid, TableRing, TableRingSaid,
+};
+use crate::parts::Parts;
+use crate::store::{Store, copy_constants, host_at, kick_at, pend_at, put_at, ring_at, take_at};
+use std::alloc::Global;
+use vub_base::{Bytes, OutOfMemory};
+use vub_event::Host;
+use vub_mem::DirtyLog;
+use vub_model::{Constants, Entry, RingOp, RingSaid};
+use vub_proto::Service;
+
+/// All parts, lent: they tell what they hold. They own no memory, so that what is lent comes back known.
+#[derive(Drop)]
+pub struct OwnedParts<'a, L: DirtyLog, V> {
+    pub store: &'a mut Store<L>,
+    pub service: &'a mut V,
+    pub constants: &'a Constants,
+}
+
+impl<'a, L: DirtyLog, V: Service> Parts for OwnedParts<'a, L, V> {
+    type Service = V;
+
+    ghost held = { λ p. Some (held_of p.store.now p.service.now) };
+
+    ghost loan = { λ p. (p.store.ghost_name, p.service.ghost_name) };
+
+    ghost fault_count = { λ p. p.store.now.host.plan.faults };
+
+    ghost never_fails = { λ p. p.store.now.host.plan.calls.items ≡ [] };
+
+    ghost told_constants = { λ p. Some p.constants.now };
+
+    fn faults(&self) -> u64 {
+        self.store.host.faults()
+    }
+
+    #[tactic(auto, using(crate::proofs::Holding::ring_row, crate::proofs::Holding::quiet_counts))]
+    fn ring(&mut self, alloc: Global, queue: u32, op: RingOp) -> Result<RingSaid, PartsError> {
+        ring_at(alloc, &mut self.store.rings, queue, op)
+    }
+
+    #[tactic(auto, using(crate::proofs::Holding::take_row, crate::proofs::Holding::quiet_counts))]
+    fn ring_table(
+        &mut self,
+        alloc: Global,
+        queue: u32,
+        op: TableRing,
+    ) -> Result<TableRingSaid, PartsError> {
+        let store = &mut *self.store;
+        match op {
+            TableRing::Take => take_at(alloc, &mut store.rings, &mut store.memory, queue),
+        }
+    }
+
+    #[tactic(auto, using(crate::proofs::Holding::kick_row))]
+    fn ring_host(
+        &mut self,
+        alloc: Global,
+        queue: u32,
+        object: u32,
+    ) -> Result<KickSaid, PartsError> {
+        let store = &mut *self.store;
+        kick_at(alloc, &mut store.rings, &mut store.host, queue, object)
+    }
+
+    #[tactic(auto, using(crate::proofs::Holding::put_row, crate::proofs::Holding::put_sound))]
+    fn put(
+        &mut self,
+        alloc: Global,
+        _queue: u32,
+        entry: &Entry,
+        reply: &[u8],
+    ) -> Result<PutSaid, PartsError> {
+        let store = &mut *self.store;
+        put_at(
+            alloc,
+            &mut store.rings,
+            &mut store.memory,
+            &mut store.host,
+            entry,
+            reply,
+        )
+    }
+
+    #[tactic(auto, using(crate::proofs::Holding::host_row))]
+    fn host(&mut self, alloc: Global, op: HostOp) -> Result<HostSaid, PartsError> {
+        host_at(alloc, &mut self.store.host, op)
+    }
+
+    #[tactic(auto, using(crate::proofs::Holding::pend_row, crate::proofs::Holding::quiet_counts))]
+    fn pend(&mut self, alloc: Global, worker: u32, op: PendOp) -> Result<PendSaid, PartsError> {
+        pend_at(alloc, &mut self.store.pending, worker, op)
+    }
+
+    fn service(&mut self, alloc: Global, entry: &Entry) -> Result<Bytes, PartsError> {
+        match self
+            .service
+            .serve(alloc, entry.chain.request.as_slice(), entry.chain.room)
+        {
+            Ok(reply) => Ok(reply),
+            Err(_) => Err(PartsError::OutOfMemory),
+        }
+    }
+
+    fn constants(&mut self, alloc: Global) -> Result<Constants, OutOfMemory> {
+        copy_constants(alloc, self.constants)
+    }
+}

@@ -1,0 +1,146 @@
+ghost use Rattle.std.specs.Prelude.{◌≡◌, ◌≤◌, ◌⊎◌, ℕ, Option, length, sum_by, IfOk};
+ghost use Rattle.vub_base.specs.Causes.{Rose};
+ghost use Rattle.std.specs.Option.{ForSome};
+ghost use Rattle.vub_model.specs.declared.constants.Constants.{Constants};
+ghost use Rattle.vub_model.specs.Held.{Held};
+ghost use Rattle.vub_model.specs.Service.{meaning};
+ghost use Rattle.vub_vring.specs.Calls.{Called, RingCall, TableRingCall, HasRoom, KickCall, PutCall, PutUncalled, PendCall, ServiceCall, HostCall, IsSaid};
+ghost use Rattle.vub_vring.specs.Faults.{CountsFaults};
+
+use crate::ops::{
+    HostOp, HostSaid, KickSaid, PartsError, PendOp, PendSaid, PutSaid, TableRing, TableRingSaid,
+};
+use std::alloc::Global;
+use vub_base::{Bytes, OutOfMemory};
+use vub_model::{Constants, Entry, RingOp, RingSaid};
+use vub_proto::Service;
+
+/// The parts that guest, control and workers share: rings, guest memory, the host, pending sets, the device and the
+/// service. Each call is one hold of the parts that it touches, and one step of the machine.
+///
+/// Parts may tell what they hold, and then each call says and leaves what its definition says. Told or not, a call that
+/// is not made changes nothing, and a fault of the host comes only where its count rose. A queue or a worker that is not
+/// there is as a closed ring, and as an empty pending set that stays empty.
+pub trait Parts {
+    type Service: Service;
+
+    // what is held, where it is told
+    ghost held: { Self → Option (Held Self.Service) };
+
+    // what is lent: no call changes it
+    ghost loan: { Self → ℕ × ℕ };
+
+    // how many calls of the host have failed
+    ghost fault_count: { Self → ℕ };
+
+    // the host has no call that is to fail
+    ghost never_fails: { Self → Type 0 };
+
+    // the device's constants, where they are told; no call changes them
+    ghost told_constants: { Self → Option Constants };
+
+    /// How many calls of the host have failed. The count never falls.
+    fn faults(&self) -> u64
+        ensures { result ≡ fault_count self.now };
+
+    /// Applies an op to a ring (`VringState` of the Rust crate `vhost-user-backend`).
+    ///
+    /// # Errors
+    /// Want of memory.
+    fn ring(&mut self, alloc: Global, queue: u32, op: RingOp) -> Result<RingSaid, PartsError>
+        ensures row { Called result (held self.old) (held self.new) (RingCall queue op) }
+        ensures faults { CountsFaults (fault_count self.old) (fault_count self.new) (never_fails self.old) (never_fails self.new) result }
+        ensures loan { loan self.new ≡ loan self.old }
+        ensures constants { told_constants self.new ≡ told_constants self.old };
+
+    /// Takes the next entry of a ring that is ready and enabled, has its addresses and no entry in flight.
+    ///
+    /// # Errors
+    /// Want of memory.
+    fn ring_table(
+        &mut self,
+        alloc: Global,
+        queue: u32,
+        op: TableRing,
+    ) -> Result<TableRingSaid, PartsError>
+        ensures row { Called result (held self.old) (held self.new) (TableRingCall queue op) }
+        ensures room { IfOk result HasRoom }
+        ensures faults { CountsFaults (fault_count self.old) (fault_count self.new) (never_fails self.old) (never_fails self.new) result }
+        ensures loan { loan self.new ≡ loan self.old }
+        ensures constants { told_constants self.new ≡ told_constants self.old };
+
+    /// Reads the counter of this event, if it is the kick of the ring.
+    ///
+    /// # Errors
+    /// A fault of the host.
+    fn ring_host(&mut self, alloc: Global, queue: u32, object: u32) -> Result<KickSaid, PartsError>
+        ensures row { Called result (held self.old) (held self.new) (KickCall queue object) }
+        ensures faults { CountsFaults (fault_count self.old) (fault_count self.new) (never_fails self.old) (never_fails self.new) result }
+        ensures loan { loan self.new ≡ loan self.old }
+        ensures constants { told_constants self.new ≡ told_constants self.old };
+
+    /// Uses the entry with this reply, and signals the call of its ring where the driver wants it; or holds the entry,
+    /// where a byte of the use is outside guest memory. A signal at which the host fails is passed over.
+    ///
+    /// # Errors
+    /// Want of memory.
+    fn put(
+        &mut self,
+        alloc: Global,
+        queue: u32,
+        entry: &Entry,
+        reply: &[u8],
+    ) -> Result<PutSaid, PartsError>
+        requires queue { queue ≡ entry.now.queue }
+        requires fits { length reply.now ≤ entry.now.chain.room }
+        requires room { entry.now.chain.room ≡ sum_by (λ s. s.len) entry.now.chain.segments }
+        ensures row { Called result (held self.old) (held self.new) (λ s old new. PutCall entry.now reply.now s old new ⊎ (Rose (fault_count self.old) (fault_count self.new) × PutUncalled entry.now reply.now s old new)) }
+        ensures sound { never_fails self.old → Called result (held self.old) (held self.new) (PutCall entry.now reply.now) }
+        ensures faults { CountsFaults (fault_count self.old) (fault_count self.new) (never_fails self.old) (never_fails self.new) result }
+        ensures loan { loan self.new ≡ loan self.old }
+        ensures constants { told_constants self.new ≡ told_constants self.old };
+
+    /// Makes this call of the host.
+    ///
+    /// # Errors
+    /// A fault of the host; want of memory for the calls that may answer it.
+    fn host(&mut self, alloc: Global, op: HostOp) -> Result<HostSaid, PartsError>
+        ensures row { Called result (held self.old) (held self.new) (HostCall op) }
+        ensures said { IfOk result IsSaid }
+        ensures faults { CountsFaults (fault_count self.old) (fault_count self.new) (never_fails self.old) (never_fails self.new) result }
+        ensures loan { loan self.new ≡ loan self.old }
+        ensures constants { told_constants self.new ≡ told_constants self.old };
+
+    /// Changes a worker's pending set.
+    ///
+    /// # Errors
+    /// Want of memory.
+    fn pend(&mut self, alloc: Global, worker: u32, op: PendOp) -> Result<PendSaid, PartsError>
+        ensures row { Called result (held self.old) (held self.new) (PendCall worker op) }
+        ensures faults { CountsFaults (fault_count self.old) (fault_count self.new) (never_fails self.old) (never_fails self.new) result }
+        ensures loan { loan self.new ≡ loan self.old }
+        ensures constants { told_constants self.new ≡ told_constants self.old };
+
+    /// Asks the service for the reply to the entry.
+    ///
+    /// # Errors
+    /// Want of memory.
+    fn service(&mut self, alloc: Global, entry: &Entry) -> Result<Bytes, PartsError>
+        ensures row { Called result (held self.old) (held self.new) (ServiceCall (meaning Self.Service.reply_of Self.Service.after) entry.now) }
+        ensures fits { IfOk result (λ reply. length reply ≤ entry.now.chain.room) }
+        ensures faults { CountsFaults (fault_count self.old) (fault_count self.new) (never_fails self.old) (never_fails self.new) result }
+        ensures loan { loan self.new ≡ loan self.old }
+        ensures constants { told_constants self.new ≡ told_constants self.old };
+
+    /// The device's constants.
+    ///
+    /// # Errors
+    /// Want of memory.
+    fn constants(&mut self, alloc: Global) -> Result<Constants, OutOfMemory>
+        ensures ok { IfOk result (λ c. ForSome (told_constants self.old) (λ told. c ≡ told)) }
+        ensures held { held self.new ≡ held self.old }
+        ensures faults { fault_count self.new ≡ fault_count self.old }
+        ensures still { never_fails self.old → never_fails self.new }
+        ensures loan { loan self.new ≡ loan self.old }
+        ensures constants { told_constants self.new ≡ told_constants self.old };
+}

@@ -1,0 +1,85 @@
+//! Parts that tell nothing of what they hold, as those behind locks.
+ghost use Rattle.std.specs.Prelude.{ℕ, None};
+
+use crate::ops::{
+    HostOp, HostSaid, KickSaid, PartsError, PendOp, PendSaid, PutSaid, TableRing, TableRingSaid,
+};
+use crate::owned::OwnedParts;
+use crate::parts::Parts;
+use std::alloc::Global;
+use vub_base::{Bytes, OutOfMemory};
+use vub_mem::DirtyLog;
+use vub_model::{Constants, Entry, RingOp, RingSaid};
+use vub_proto::Service;
+
+/// Parts that tell nothing. They pass each call on.
+#[derive(Drop)]
+pub(crate) struct SilentParts<'a, L: DirtyLog, V> {
+    pub inner: OwnedParts<'a, L, V>,
+}
+
+impl<'a, L: DirtyLog, V: Service> Parts for SilentParts<'a, L, V> {
+    type Service = V;
+
+    ghost held = { λ _. None };
+
+    ghost loan = { λ _. (0, 0) };
+
+    ghost fault_count = { λ p. p.inner.store.now.host.plan.faults };
+
+    ghost never_fails = { λ p. ⊥ };
+
+    ghost told_constants = { λ _. None };
+
+    fn faults(&self) -> u64 {
+        self.inner.faults()
+    }
+
+    fn ring(&mut self, alloc: Global, queue: u32, op: RingOp) -> Result<RingSaid, PartsError> {
+        self.inner.ring(alloc, queue, op)
+    }
+
+    fn ring_table(
+        &mut self,
+        alloc: Global,
+        queue: u32,
+        op: TableRing,
+    ) -> Result<TableRingSaid, PartsError> {
+        self.inner.ring_table(alloc, queue, op)
+    }
+
+    fn ring_host(
+        &mut self,
+        alloc: Global,
+        queue: u32,
+        object: u32,
+    ) -> Result<KickSaid, PartsError> {
+        self.inner.ring_host(alloc, queue, object)
+    }
+
+    fn put(
+        &mut self,
+        alloc: Global,
+        queue: u32,
+        entry: &Entry,
+        reply: &[u8],
+    ) -> Result<PutSaid, PartsError> {
+        self.inner.put(alloc, queue, entry, reply)
+    }
+
+    fn host(&mut self, alloc: Global, op: HostOp) -> Result<HostSaid, PartsError> {
+        self.inner.host(alloc, op)
+    }
+
+    fn pend(&mut self, alloc: Global, worker: u32, op: PendOp) -> Result<PendSaid, PartsError> {
+        self.inner.pend(alloc, worker, op)
+    }
+
+    fn service(&mut self, alloc: Global, entry: &Entry) -> Result<Bytes, PartsError> {
+        self.inner.service(alloc, entry)
+    }
+
+    fn constants(&mut self, alloc: Global) -> Result<Constants, OutOfMemory> {
+        self.inner.constants(alloc)
+    }
+}
