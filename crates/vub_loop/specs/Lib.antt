@@ -1,0 +1,7 @@
+pub mod Faults
+pub mod Finished
+pub mod Handler
+pub mod Plays
+pub mod Polling
+pub mod Said
+pub mod Sound

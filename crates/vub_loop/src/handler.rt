@@ -1,0 +1,508 @@
+ghost use Rattle.std.specs.Prelude.{◌≡◌, ◌≤◌, ℕ, IfOk, IfErr, OnErr};
+ghost use Rattle.std.specs.Option.{ForSome};
+ghost use Rattle.vub_base.specs.Causes.{Rose};
+ghost use Rattle.vub_base.specs.Told.{Told};
+ghost use Rattle.vub_model.specs.RunOf.{IsLeastPoll};
+ghost use Rattle.vub_model.specs.Service.{meaning};
+ghost use Rattle.vub_model.specs.Wiring.{Wiring};
+ghost use Rattle.vub_model.specs.Work.{after_event};
+ghost use Rattle.vub_loop.specs.Faults.{Reads, Steps, PollSteps, TurnSteps, StopsByFault, IsHostStop, read_error};
+ghost use Rattle.vub_loop.specs.Finished.{finished_by};
+ghost use Rattle.vub_loop.specs.Handler.{phase_of, IsHandler, SameWorker, new_handler};
+ghost use Rattle.vub_loop.specs.Polling.{PollingSteps, polling_label};
+ghost use Rattle.vub_loop.specs.Sound.{IsSound};
+
+use crate::finished::Finished;
+use crate::mask::queues_of_mask;
+use crate::phases::{queues_at, refusal, serving_of, serving_rest, stopped_by};
+use crate::polling::Polling;
+use crate::reading::{heard, kicked, rung};
+use crate::said::member_of;
+use crate::standing::Standing;
+use std::alloc::Global;
+use std::mem;
+use vub_base::{Listed, OutOfMemory};
+use vub_model::{Constants, Entry, Label, Opened, Phase, StopCause, VringEpollError, Why};
+use vub_vring::{HostOp, Parts, PartsError, PendOp, PendSaid, PutSaid, TableRing, TableRingSaid};
+
+/// A worker (`VringEpollHandler` of the Rust crate `vhost-user-backend`): the queues of its mask, and where it stands.
+///
+/// Each step plays one row of the machine, and answers whether it was played: false exactly where the worker may not
+/// play it, and then nothing changes. A step in which the worker stops was played. Where the host fails, a worker that
+/// polls or reads a counter stops with the error of that call. The only error of a step is want of memory, which leaves
+/// the worker and the parts as they were.
+#[derive(Debug, Drop)]
+pub struct VringEpollHandler {
+    opened: Opened,
+    /// The numbers of its queues, in order: the place of a queue is its event number.
+    queues: Listed<u32>,
+    /// The number of all queues, which is the token of the bell and of the exit object.
+    count: usize,
+    standing: Standing,
+    /// What the last step used.
+    finished: Option<Finished>,
+}
+
+impl VringEpollHandler {
+    /// How the worker was opened: its number, its interest list, its bell and its exit object.
+    pub fn opened(&self) -> Opened
+        ensures { result ≡ self.now.opened }
+    {
+        self.opened
+    }
+
+    /// Where the worker stands.
+    pub fn phase(&self) -> &Phase
+        ensures { result.now ≡ phase_of self.now }
+    {
+        self.standing.phase()
+    }
+
+    /// The entry and the reply that the last step used, if it used one. They are moved out.
+    pub fn take_finished(&mut self) -> Option<Finished>
+        ensures was { result ≡ self.old.finished }
+        ensures left { self.new ≡ record self.old { finished = None } }
+    {
+        mem::replace(&mut self.finished, None)
+    }
+
+    /// The worker stands in this phase, and used nothing.
+    fn stand(&mut self, phase: Phase)
+        requires { IsSound phase }
+        ensures { self.new ≡ record self.old { standing = phase; finished = None } }
+    {
+        self.standing = Standing::new(phase);
+        self.finished = None;
+    }
+
+    /// Polls an idle worker's interest list.
+    fn poll<P: Parts>(&mut self, alloc: Global, parts: &mut P) -> Result<Polling, VringEpollError>
+        ensures row { (g : Wiring) (worker : ℕ) → IsHandler g worker self.old → IfOk result (λ polled. Told (P.held parts.old) (P.held parts.new) (PollingSteps (P.never_fails parts.old) (Rose (P.fault_count parts.old) (P.fault_count parts.new)) (meaning P.Service.reply_of P.Service.after) g worker polled (phase_of self.old) (phase_of self.new))) }
+        ensures least { (g : Wiring) (worker : ℕ) → IsHandler g worker self.old → IfOk result (λ polled. Told (P.held parts.old) (P.held parts.new) (λ old new. IsLeastPoll g worker old (polling_label polled))) }
+        ensures finished { IfOk result (λ polled. self.new.finished ≡ None) }
+        ensures same { SameWorker self.old self.new }
+        ensures stops { StopsByFault (phase_of self.old) (phase_of self.new) (Rose (P.fault_count parts.old) (P.fault_count parts.new)) }
+        ensures error { IfErr result (λ e. e ≡ VringEpollError.OutOfMemory) }
+        ensures err { OnErr result (self.new ≡ self.old) }
+        ensures held { OnErr result (P.held parts.new ≡ P.held parts.old) }
+        ensures later { P.fault_count parts.old ≤ P.fault_count parts.new }
+        ensures still { P.never_fails parts.old → P.never_fails parts.new }
+        ensures loan { P.loan parts.new ≡ P.loan parts.old }
+        ensures constants { P.told_constants parts.new ≡ P.told_constants parts.old }
+    {
+        match self.standing.phase() {
+            Phase::Idle => {}
+            _ => {
+                self.finished = None;
+                return Ok(Polling::Nothing);
+            }
+        }
+        match parts.host(alloc, HostOp::Ready(self.opened.list)) {
+            Ok(said) => match member_of(said) {
+                Some(ready) => {
+                    self.stand(Phase::Polled {
+                        object: ready.object,
+                        token: ready.token,
+                    });
+                    Ok(Polling::Member(ready.object))
+                }
+                None => {
+                    self.finished = None;
+                    Ok(Polling::Nothing)
+                }
+            },
+            Err(PartsError::Fault) => {
+                self.stand(Phase::Stopped(StopCause::Fault(VringEpollError::EpollWait)));
+                Ok(Polling::Failed)
+            }
+            Err(PartsError::OutOfMemory) => Err(VringEpollError::OutOfMemory),
+        }
+    }
+
+    /// Poll: an idle worker picks a ready member of its interest list.
+    ///
+    /// # Errors
+    /// Want of memory leaves the worker and the parts as they were.
+    pub fn poll_step<P: Parts>(
+        &mut self,
+        alloc: Global,
+        parts: &mut P,
+    ) -> Result<bool, VringEpollError>
+        ensures row { (g : Wiring) (worker : ℕ) → IsHandler g worker self.old → IfOk result (λ played. Told (P.held parts.old) (P.held parts.new) (PollSteps (P.never_fails parts.old) (Rose (P.fault_count parts.old) (P.fault_count parts.new)) (meaning P.Service.reply_of P.Service.after) g worker played (phase_of self.old) (phase_of self.new))) }
+        ensures finished { IfOk result (λ played. self.new.finished ≡ None) }
+        ensures same { SameWorker self.old self.new }
+        ensures stops { StopsByFault (phase_of self.old) (phase_of self.new) (Rose (P.fault_count parts.old) (P.fault_count parts.new)) }
+        ensures error { IfErr result (λ e. e ≡ VringEpollError.OutOfMemory) }
+        ensures err { OnErr result (self.new ≡ self.old) }
+        ensures held { OnErr result (P.held parts.new ≡ P.held parts.old) }
+        ensures later { P.fault_count parts.old ≤ P.fault_count parts.new }
+        ensures still { P.never_fails parts.old → P.never_fails parts.new }
+        ensures loan { P.loan parts.new ≡ P.loan parts.old }
+        ensures constants { P.told_constants parts.new ≡ P.told_constants parts.old }
+    {
+        match self.poll(alloc, parts)? {
+            Polling::Nothing => Ok(false),
+            Polling::Member(_) => Ok(true),
+            Polling::Failed => Ok(true),
+        }
+    }
+
+    /// The phase after the counter of this object was read, by the token under which it was polled.
+    fn read<P: Parts>(
+        &self,
+        alloc: Global,
+        parts: &mut P,
+        object: u32,
+        token: u64,
+    ) -> Result<Phase, VringEpollError>
+        ensures row { (g : Wiring) (worker : ℕ) → IsHandler g worker self.now → IfOk result (λ phase. Told (P.held parts.old) (P.held parts.new) (λ old new. Reads (P.never_fails parts.old) (Rose (P.fault_count parts.old) (P.fault_count parts.new)) (after_event g worker old object token) (read_error g worker token) phase old new)) }
+        ensures sound { IfOk result IsSound }
+        ensures stops { IfOk result (λ phase. IsHostStop phase → Rose (P.fault_count parts.old) (P.fault_count parts.new)) }
+        ensures error { IfErr result (λ e. e ≡ VringEpollError.OutOfMemory) }
+        ensures held { OnErr result (P.held parts.new ≡ P.held parts.old) }
+        ensures later { P.fault_count parts.old ≤ P.fault_count parts.new }
+        ensures still { P.never_fails parts.old → P.never_fails parts.new }
+        ensures loan { P.loan parts.new ≡ P.loan parts.old }
+        ensures constants { P.told_constants parts.new ≡ P.told_constants parts.old }
+    {
+        if token < self.queues.len() as u64 {
+            let queue = self.queues.as_slice()[token as usize];
+            kicked(alloc, parts, queue, object)
+        } else if token == self.count as u64 {
+            rung(alloc, parts, self.opened)
+        } else {
+            heard(alloc, parts, self.opened.list, object, token)
+        }
+    }
+
+    /// Event: the counter of the event that was polled is read, by its token. A kick is read to zero, and its queue is
+    /// served where it is ready and enabled; a bell above zero is read, and the pending queues are due, and at zero a
+    /// worker with an exit object stops; a listener is read, and heard. Where the event is no kick or listener of that
+    /// token any more, nothing is read.
+    ///
+    /// # Errors
+    /// Want of memory leaves the worker and the parts as they were.
+    pub fn event_step<P: Parts>(
+        &mut self,
+        alloc: Global,
+        parts: &mut P,
+    ) -> Result<bool, VringEpollError>
+        ensures row { (g : Wiring) (worker : ℕ) → IsHandler g worker self.old → IfOk result (λ played. Told (P.held parts.old) (P.held parts.new) (Steps (P.never_fails parts.old) (Rose (P.fault_count parts.old) (P.fault_count parts.new)) (meaning P.Service.reply_of P.Service.after) g worker Label.Event played (phase_of self.old) (phase_of self.new))) }
+        ensures finished { IfOk result (λ played. self.new.finished ≡ None) }
+        ensures same { SameWorker self.old self.new }
+        ensures stops { StopsByFault (phase_of self.old) (phase_of self.new) (Rose (P.fault_count parts.old) (P.fault_count parts.new)) }
+        ensures error { IfErr result (λ e. e ≡ VringEpollError.OutOfMemory) }
+        ensures err { OnErr result (self.new ≡ self.old) }
+        ensures held { OnErr result (P.held parts.new ≡ P.held parts.old) }
+        ensures later { P.fault_count parts.old ≤ P.fault_count parts.new }
+        ensures still { P.never_fails parts.old → P.never_fails parts.new }
+        ensures loan { P.loan parts.new ≡ P.loan parts.old }
+        ensures constants { P.told_constants parts.new ≡ P.told_constants parts.old }
+    {
+        match self.standing.phase() {
+            Phase::Polled { object, token } => {
+                let phase = self.read(alloc, parts, *object, *token)?;
+                self.stand(phase);
+                Ok(true)
+            }
+            _ => {
+                self.finished = None;
+                Ok(false)
+            }
+        }
+    }
+
+    /// Sweep: all pending numbers are taken, and their queues are served, in order.
+    ///
+    /// # Errors
+    /// Want of memory leaves the worker and the parts as they were.
+    pub fn sweep_step<P: Parts>(
+        &mut self,
+        alloc: Global,
+        parts: &mut P,
+    ) -> Result<bool, VringEpollError>
+        ensures row { (g : Wiring) (worker : ℕ) → IsHandler g worker self.old → IfOk result (λ played. Told (P.held parts.old) (P.held parts.new) (Steps (P.never_fails parts.old) (Rose (P.fault_count parts.old) (P.fault_count parts.new)) (meaning P.Service.reply_of P.Service.after) g worker Label.Sweep played (phase_of self.old) (phase_of self.new))) }
+        ensures finished { IfOk result (λ played. self.new.finished ≡ None) }
+        ensures same { SameWorker self.old self.new }
+        ensures stops { StopsByFault (phase_of self.old) (phase_of self.new) (Rose (P.fault_count parts.old) (P.fault_count parts.new)) }
+        ensures error { IfErr result (λ e. e ≡ VringEpollError.OutOfMemory) }
+        ensures err { OnErr result (self.new ≡ self.old) }
+        ensures held { OnErr result (P.held parts.new ≡ P.held parts.old) }
+        ensures later { P.fault_count parts.old ≤ P.fault_count parts.new }
+        ensures still { P.never_fails parts.old → P.never_fails parts.new }
+        ensures loan { P.loan parts.new ≡ P.loan parts.old }
+        ensures constants { P.told_constants parts.new ≡ P.told_constants parts.old }
+    {
+        match self.standing.phase() {
+            Phase::Sweep => {}
+            _ => {
+                self.finished = None;
+                return Ok(false);
+            }
+        }
+        match parts.pend(alloc, self.opened.worker, PendOp::TakeAll) {
+            Ok(PendSaid::All(numbers)) => {
+                let queues = queues_at(self.queues.as_slice(), numbers);
+                self.stand(serving_of(queues));
+                Ok(true)
+            }
+            Ok(PendSaid::Done) => {
+                self.stand(Phase::Idle);
+                Ok(true)
+            }
+            Err(_) => Err(VringEpollError::OutOfMemory),
+        }
+    }
+
+    /// Take: the next entry of the first queue of the list is taken. Where the queue gives none, it leaves the list;
+    /// where its ring is damaged, the worker stops.
+    ///
+    /// # Errors
+    /// Want of memory leaves the worker and the parts as they were.
+    pub fn take_step<P: Parts>(
+        &mut self,
+        alloc: Global,
+        parts: &mut P,
+    ) -> Result<bool, VringEpollError>
+        ensures row { (g : Wiring) (worker : ℕ) → IsHandler g worker self.old → IfOk result (λ played. Told (P.held parts.old) (P.held parts.new) (Steps (P.never_fails parts.old) (Rose (P.fault_count parts.old) (P.fault_count parts.new)) (meaning P.Service.reply_of P.Service.after) g worker Label.Take played (phase_of self.old) (phase_of self.new))) }
+        ensures finished { IfOk result (λ played. self.new.finished ≡ None) }
+        ensures same { SameWorker self.old self.new }
+        ensures stops { StopsByFault (phase_of self.old) (phase_of self.new) (Rose (P.fault_count parts.old) (P.fault_count parts.new)) }
+        ensures error { IfErr result (λ e. e ≡ VringEpollError.OutOfMemory) }
+        ensures err { OnErr result (self.new ≡ self.old) }
+        ensures held { OnErr result (P.held parts.new ≡ P.held parts.old) }
+        ensures later { P.fault_count parts.old ≤ P.fault_count parts.new }
+        ensures still { P.never_fails parts.old → P.never_fails parts.new }
+        ensures loan { P.loan parts.new ≡ P.loan parts.old }
+        ensures constants { P.told_constants parts.new ≡ P.told_constants parts.old }
+    {
+        match self.standing.take() {
+            Phase::Serving(queues) => match queues.first() {
+                Some(queue) => match parts.ring_table(alloc, queue, TableRing::Take) {
+                    Ok(
+                        TableRingSaid::Taken {
+                            epoch,
+                            number,
+                            chain,
+                        },
+                    ) => {
+                        let entry = Entry {
+                            queue,
+                            epoch,
+                            number,
+                            chain,
+                        };
+                        self.stand(Phase::Taken(entry, queues));
+                        Ok(true)
+                    }
+                    Ok(TableRingSaid::Nothing) => {
+                        self.stand(serving_rest(queues));
+                        Ok(true)
+                    }
+                    Ok(TableRingSaid::Damaged(damage)) => {
+                        self.stand(stopped_by(Why::Damage(damage)));
+                        Ok(true)
+                    }
+                    Err(_) => {
+                        self.standing = Standing::new(Phase::Serving(queues));
+                        Err(VringEpollError::OutOfMemory)
+                    }
+                },
+                None => {
+                    self.stand(Phase::Idle);
+                    Ok(true)
+                }
+            },
+            phase => {
+                self.stand(phase);
+                Ok(false)
+            }
+        }
+    }
+
+    /// Serve: the service is asked for the reply to the entry in hand.
+    ///
+    /// # Errors
+    /// Want of memory leaves the worker and the parts as they were.
+    pub fn serve_step<P: Parts>(
+        &mut self,
+        alloc: Global,
+        parts: &mut P,
+    ) -> Result<bool, VringEpollError>
+        ensures row { (g : Wiring) (worker : ℕ) → IsHandler g worker self.old → IfOk result (λ played. Told (P.held parts.old) (P.held parts.new) (Steps (P.never_fails parts.old) (Rose (P.fault_count parts.old) (P.fault_count parts.new)) (meaning P.Service.reply_of P.Service.after) g worker Label.Serve played (phase_of self.old) (phase_of self.new))) }
+        ensures finished { IfOk result (λ played. self.new.finished ≡ None) }
+        ensures same { SameWorker self.old self.new }
+        ensures stops { StopsByFault (phase_of self.old) (phase_of self.new) (Rose (P.fault_count parts.old) (P.fault_count parts.new)) }
+        ensures error { IfErr result (λ e. e ≡ VringEpollError.OutOfMemory) }
+        ensures err { OnErr result (self.new ≡ self.old) }
+        ensures held { OnErr result (P.held parts.new ≡ P.held parts.old) }
+        ensures later { P.fault_count parts.old ≤ P.fault_count parts.new }
+        ensures still { P.never_fails parts.old → P.never_fails parts.new }
+        ensures loan { P.loan parts.new ≡ P.loan parts.old }
+        ensures constants { P.told_constants parts.new ≡ P.told_constants parts.old }
+    {
+        match self.standing.take() {
+            Phase::Taken(entry, queues) => match parts.service(alloc, &entry) {
+                Ok(reply) => {
+                    self.stand(Phase::Served(entry, reply, queues));
+                    Ok(true)
+                }
+                Err(_) => {
+                    self.standing = Standing::new(Phase::Taken(entry, queues));
+                    Err(VringEpollError::OutOfMemory)
+                }
+            },
+            phase => {
+                self.stand(phase);
+                Ok(false)
+            }
+        }
+    }
+
+    /// Put: the entry in hand is used with the service's reply, and the driver is told where it wants that. Where a byte
+    /// of the use is outside guest memory, the entry is held and the worker stops.
+    ///
+    /// # Errors
+    /// Want of memory leaves the worker and the parts as they were.
+    pub fn put_step<P: Parts>(
+        &mut self,
+        alloc: Global,
+        parts: &mut P,
+    ) -> Result<bool, VringEpollError>
+        ensures row { (g : Wiring) (worker : ℕ) → IsHandler g worker self.old → IfOk result (λ played. Told (P.held parts.old) (P.held parts.new) (Steps (P.never_fails parts.old) (Rose (P.fault_count parts.old) (P.fault_count parts.new)) (meaning P.Service.reply_of P.Service.after) g worker Label.Put played (phase_of self.old) (phase_of self.new))) }
+        ensures finished { IfOk result (λ played. self.new.finished ≡ finished_by Label.Put (phase_of self.old) (phase_of self.new)) }
+        ensures same { SameWorker self.old self.new }
+        ensures stops { StopsByFault (phase_of self.old) (phase_of self.new) (Rose (P.fault_count parts.old) (P.fault_count parts.new)) }
+        ensures error { IfErr result (λ e. e ≡ VringEpollError.OutOfMemory) }
+        ensures err { OnErr result (self.new ≡ self.old) }
+        ensures held { OnErr result (P.held parts.new ≡ P.held parts.old) }
+        ensures later { P.fault_count parts.old ≤ P.fault_count parts.new }
+        ensures still { P.never_fails parts.old → P.never_fails parts.new }
+        ensures loan { P.loan parts.new ≡ P.loan parts.old }
+        ensures constants { P.told_constants parts.new ≡ P.told_constants parts.old }
+    {
+        match self.standing.take() {
+            Phase::Served(entry, reply, queues) => {
+                match parts.put(alloc, entry.queue, &entry, reply.as_slice()) {
+                    Ok(PutSaid::Done) => {
+                        self.stand(serving_of(queues));
+                        self.finished = Some(Finished { entry, reply });
+                        Ok(true)
+                    }
+                    Ok(PutSaid::Held(fault)) => {
+                        self.stand(stopped_by(refusal(fault)));
+                        Ok(true)
+                    }
+                    Err(_) => {
+                        self.standing = Standing::new(Phase::Served(entry, reply, queues));
+                        Err(VringEpollError::OutOfMemory)
+                    }
+                }
+            }
+            phase => {
+                self.stand(phase);
+                Ok(false)
+            }
+        }
+    }
+
+    /// Plays the step that the worker may play, and answers its label; `Pass` where it has none.
+    ///
+    /// # Errors
+    /// Want of memory leaves the worker and the parts as they were.
+    pub fn turn<P: Parts>(&mut self, alloc: Global, parts: &mut P) -> Result<Label, VringEpollError>
+        ensures row { (g : Wiring) (worker : ℕ) → IsHandler g worker self.old → IfOk result (λ label. Told (P.held parts.old) (P.held parts.new) (TurnSteps (P.never_fails parts.old) (Rose (P.fault_count parts.old) (P.fault_count parts.new)) (meaning P.Service.reply_of P.Service.after) g worker label (phase_of self.old) (phase_of self.new))) }
+        ensures least { (g : Wiring) (worker : ℕ) → IsHandler g worker self.old → IfOk result (λ label. Told (P.held parts.old) (P.held parts.new) (λ old new. IsLeastPoll g worker old label)) }
+        ensures finished { IfOk result (λ label. self.new.finished ≡ finished_by label (phase_of self.old) (phase_of self.new)) }
+        ensures same { SameWorker self.old self.new }
+        ensures stops { StopsByFault (phase_of self.old) (phase_of self.new) (Rose (P.fault_count parts.old) (P.fault_count parts.new)) }
+        ensures error { IfErr result (λ e. e ≡ VringEpollError.OutOfMemory) }
+        ensures err { OnErr result (self.new ≡ self.old) }
+        ensures held { OnErr result (P.held parts.new ≡ P.held parts.old) }
+        ensures later { P.fault_count parts.old ≤ P.fault_count parts.new }
+        ensures still { P.never_fails parts.old → P.never_fails parts.new }
+        ensures loan { P.loan parts.new ≡ P.loan parts.old }
+        ensures constants { P.told_constants parts.new ≡ P.told_constants parts.old }
+    {
+        match self.standing.phase() {
+            Phase::Idle => match self.poll(alloc, parts)? {
+                Polling::Nothing => Ok(Label::Pass),
+                Polling::Member(object) => Ok(Label::Poll { object }),
+                Polling::Failed => Ok(Label::Pass),
+            },
+            Phase::Polled { .. } => {
+                self.event_step(alloc, parts)?;
+                Ok(Label::Event)
+            }
+            Phase::Sweep => {
+                self.sweep_step(alloc, parts)?;
+                Ok(Label::Sweep)
+            }
+            Phase::Heard { .. } => {
+                self.finished = None;
+                Ok(Label::Pass)
+            }
+            Phase::Serving(_) => {
+                self.take_step(alloc, parts)?;
+                Ok(Label::Take)
+            }
+            Phase::Taken(_, _) => {
+                self.serve_step(alloc, parts)?;
+                Ok(Label::Serve)
+            }
+            Phase::Served(_, _, _) => {
+                self.put_step(alloc, parts)?;
+                Ok(Label::Put)
+            }
+            Phase::Stopped(_) => {
+                self.finished = None;
+                Ok(Label::Pass)
+            }
+        }
+    }
+
+    /// A worker that was opened, before its first step, by what the device never changes.
+    ///
+    /// # Errors
+    /// Want of memory.
+    pub fn from_constants(
+        alloc: Global,
+        constants: &Constants,
+        opened: Opened,
+    ) -> Result<VringEpollHandler, OutOfMemory>
+        ensures { IfOk result (λ h. h ≡ new_handler constants.now opened) }
+    {
+        let mask = match constants.masks.as_slice().get(opened.worker as usize) {
+            Some(mask) => *mask,
+            None => 0,
+        };
+        let queues = queues_of_mask(alloc, constants.queues, mask)?;
+        Ok(VringEpollHandler {
+            opened,
+            queues: Listed::from_vec(queues),
+            count: constants.queues,
+            standing: Standing::new(Phase::Idle),
+            finished: None,
+        })
+    }
+
+    /// A worker that was opened, before its first step. The parts' device is asked for what it never changes.
+    ///
+    /// # Errors
+    /// Want of memory.
+    pub fn over<P: Parts>(
+        alloc: Global,
+        parts: &mut P,
+        opened: Opened,
+    ) -> Result<VringEpollHandler, OutOfMemory>
+        ensures made { IfOk result (λ h. ForSome (P.told_constants parts.old) (λ told. h ≡ new_handler told opened)) }
+        ensures held { P.held parts.new ≡ P.held parts.old }
+        ensures faults { P.fault_count parts.new ≡ P.fault_count parts.old }
+        ensures still { P.never_fails parts.old → P.never_fails parts.new }
+        ensures loan { P.loan parts.new ≡ P.loan parts.old }
+        ensures constants { P.told_constants parts.new ≡ P.told_constants parts.old }
+    {
+        let constants = parts.constants(alloc)?;
+        VringEpollHandler::from_constants(alloc, &constants, opened)
+    }
+}

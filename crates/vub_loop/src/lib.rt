@@ -1,0 +1,18 @@
+//! The worker of a vhost-user daemon (`VringEpollHandler` of the Rust crate `vhost-user-backend`): its steps over any
+//! parts, each of which is its row of the machine.
+#![tactic(auto)]
+
+mod finished;
+mod handler;
+mod mask;
+mod phases;
+mod polling;
+mod reading;
+mod said;
+mod standing;
+
+pub use finished::Finished;
+pub use handler::VringEpollHandler;
+
+#[cfg(test)]
+mod tests;

@@ -1,0 +1,332 @@
+ghost use Rattle.std.specs.Prelude.{[], None};
+
+use crate::VringEpollHandler;
+use std::alloc::Global;
+use std::process::Abort;
+use std::test::Fail;
+use vub_base::{Bytes, Listed, OutOfMemory};
+use vub_event::{EventSet, Host, HostError, MemHost, Ready};
+use vub_mem::GuestMemory;
+use vub_model::{
+    Constants, Entry, Label, Opened, Phase, RingOp, RingSaid, StopCause, VringEpollError,
+};
+use vub_proto::Service;
+use vub_queue::{Chain, Segments};
+use vub_vring::{
+    HostOp, HostSaid, KickSaid, OwnedParts, Parts, PartsError, PendOp, PendSaid, Pending, PutSaid,
+    Store, TableRing, TableRingSaid, VringState,
+};
+
+/// A service whose replies are empty.
+#[derive(Drop)]
+struct Quiet {}
+
+impl Service for Quiet {
+    ghost reply_of = { λ _ _ _. [] };
+
+    ghost after = { λ v _ _. v };
+
+    fn serve(&mut self, alloc: Global, _request: &[u8], _room: u32) -> Result<Bytes, OutOfMemory> {
+        Ok(Bytes::new(alloc))
+    }
+}
+
+/// Parts that tell nothing, with one ring.
+#[derive(Drop)]
+struct Silent {
+    /// What the next poll gives.
+    ready: Option<Ready>,
+    /// How many entries are left.
+    left: u32,
+}
+
+impl Parts for Silent {
+    type Service = Quiet;
+
+    ghost held = { λ _. None };
+
+    ghost loan = { λ _. (0, 0) };
+
+    ghost fault_count = { λ _. 0 };
+
+    ghost never_fails = { λ _. Unit {0} };
+
+    ghost told_constants = { λ _. None };
+
+    fn faults(&self) -> u64 {
+        0
+    }
+
+    fn ring(&mut self, _alloc: Global, _queue: u32, _op: RingOp) -> Result<RingSaid, PartsError> {
+        Ok(RingSaid::Done)
+    }
+
+    fn ring_table(
+        &mut self,
+        alloc: Global,
+        _queue: u32,
+        _op: TableRing,
+    ) -> Result<TableRingSaid, PartsError> {
+        if self.left == 0 {
+            return Ok(TableRingSaid::Nothing);
+        }
+        self.left -= 1;
+        let chain = Chain {
+            head: 0,
+            request: Bytes::new(alloc),
+            segments: Segments::from_vec(Vec::new(alloc)),
+            room: 0,
+        };
+        Ok(TableRingSaid::Taken {
+            epoch: 0,
+            number: 0,
+            chain,
+        })
+    }
+
+    fn ring_host(
+        &mut self,
+        _alloc: Global,
+        _queue: u32,
+        _object: u32,
+    ) -> Result<KickSaid, PartsError> {
+        Ok(KickSaid::Serve)
+    }
+
+    fn put(
+        &mut self,
+        _alloc: Global,
+        _queue: u32,
+        _entry: &Entry,
+        _reply: &[u8],
+    ) -> Result<PutSaid, PartsError> {
+        Ok(PutSaid::Done)
+    }
+
+    fn host(&mut self, _alloc: Global, op: HostOp) -> Result<HostSaid, PartsError> {
+        match op {
+            HostOp::Ready(_) => Ok(HostSaid::Ready(self.ready.take())),
+            HostOp::Consume(_) => Ok(HostSaid::Count(1)),
+            _ => Ok(HostSaid::Done),
+        }
+    }
+
+    fn pend(&mut self, alloc: Global, _worker: u32, _op: PendOp) -> Result<PendSaid, PartsError> {
+        Ok(PendSaid::All(Pending::new(alloc)))
+    }
+
+    fn service(&mut self, alloc: Global, _entry: &Entry) -> Result<Bytes, PartsError> {
+        Ok(Bytes::new(alloc))
+    }
+
+    fn constants(&mut self, alloc: Global) -> Result<Constants, OutOfMemory> {
+        one_worker(alloc)
+    }
+}
+
+/// One queue, one worker.
+fn one_worker(alloc: Global) -> Result<Constants, OutOfMemory> {
+    let mut masks = Listed::new(alloc);
+    masks.push(1)?;
+    let mut exits = Listed::new(alloc);
+    exits.push(None)?;
+    Ok(Constants {
+        queues: 1,
+        max: 256,
+        features: 0,
+        protocol: 0,
+        masks,
+        exits,
+    })
+}
+
+const OPENED: Opened = Opened {
+    worker: 0,
+    list: 0,
+    bell: 0,
+    exit: None,
+};
+
+/// A poll that gives this object with this token.
+fn report(object: u32, token: u64) -> Option<Ready> {
+    Some(Ready {
+        object,
+        events: 1,
+        token,
+    })
+}
+
+/// Parts whose next poll gives this member, with one entry left.
+fn with_report(ready: Option<Ready>) -> Silent {
+    Silent { ready, left: 1 }
+}
+
+/// Opens the worker, and plays one turn for each label, which it has to answer.
+fn after<P: Parts>(
+    rt: &impl Abort,
+    alloc: Global,
+    parts: &mut P,
+    labels: &[Label],
+) -> Result<VringEpollHandler, Fail> {
+    let mut worker = VringEpollHandler::over(alloc, parts, OPENED)?;
+    for label in labels {
+        assert_eq!(rt; worker.turn(alloc, parts)?, *label);
+    }
+    Ok(worker)
+}
+
+#[test]
+fn an_entry_is_taken_served_and_used(rt: HostRuntime) -> Result<(), Fail> {
+    let alloc = rt.alloc();
+    let mut parts = with_report(report(7, 0));
+    let used = [
+        Label::Poll { object: 7 },
+        Label::Event,
+        Label::Take,
+        Label::Serve,
+        Label::Put,
+    ];
+    let mut worker = after(&rt, alloc, &mut parts, &used)?;
+    assert!(rt; worker.take_finished().is_some());
+    assert_eq!(rt; worker.opened(), OPENED);
+    Ok(())
+}
+
+#[test]
+fn a_worker_without_entries_is_idle_again(rt: HostRuntime) -> Result<(), Fail> {
+    let alloc = rt.alloc();
+    let mut parts = with_report(report(7, 0));
+    parts.left = 0;
+    let looked = [
+        Label::Poll { object: 7 },
+        Label::Event,
+        Label::Take,
+        Label::Pass,
+    ];
+    let worker = after(&rt, alloc, &mut parts, &looked)?;
+    assert!(rt; matches!(worker.phase(), Phase::Idle));
+    Ok(())
+}
+
+#[test]
+fn an_idle_worker_polls(rt: HostRuntime) -> Result<(), Fail> {
+    let alloc = rt.alloc();
+    let mut parts = with_report(report(7, 0));
+    let constants = one_worker(alloc)?;
+    let mut worker = VringEpollHandler::from_constants(alloc, &constants, OPENED)?;
+    assert!(rt; worker.poll_step(alloc, &mut parts)?);
+    Ok(())
+}
+
+#[test]
+fn a_kick_is_served(rt: HostRuntime) -> Result<(), Fail> {
+    let alloc = rt.alloc();
+    let mut parts = with_report(report(7, 0));
+    let mut worker = after(&rt, alloc, &mut parts, &[Label::Poll { object: 7 }])?;
+    assert!(rt; worker.event_step(alloc, &mut parts)?);
+    assert!(rt; worker.take_step(alloc, &mut parts)?);
+    Ok(())
+}
+
+#[test]
+fn an_entry_in_hand_is_served_and_put(rt: HostRuntime) -> Result<(), Fail> {
+    let alloc = rt.alloc();
+    let mut parts = with_report(report(7, 0));
+    let taken = [Label::Poll { object: 7 }, Label::Event, Label::Take];
+    let mut worker = after(&rt, alloc, &mut parts, &taken)?;
+    assert!(rt; worker.serve_step(alloc, &mut parts)?);
+    assert!(rt; worker.put_step(alloc, &mut parts)?);
+    Ok(())
+}
+
+#[test]
+fn a_bell_is_swept(rt: HostRuntime) -> Result<(), Fail> {
+    let alloc = rt.alloc();
+    let mut parts = with_report(report(0, 1));
+    let rung = [Label::Poll { object: 0 }, Label::Event];
+    let mut worker = after(&rt, alloc, &mut parts, &rung)?;
+    assert!(rt; worker.sweep_step(alloc, &mut parts)?);
+    Ok(())
+}
+
+/// A host with an interest list, whose bell was rung.
+fn rung_host(alloc: Global) -> Result<MemHost, HostError> {
+    let mut host = MemHost::new(alloc);
+    let bell = host.create_event(alloc, 0)?;
+    let list = host.create_list(alloc)?;
+    host.add(alloc, list, bell, EventSet::IN, 1)?;
+    host.signal(bell, 1)?;
+    Ok(host)
+}
+
+/// A host with an interest list, which fails at its next call.
+fn failing_host(alloc: Global) -> Result<MemHost, HostError> {
+    let mut calls = Vec::new(alloc);
+    calls.push(1)?;
+    let mut host = MemHost::failing(alloc, calls)?;
+    let _list = host.create_list(alloc)?;
+    Ok(host)
+}
+
+/// A store with one ring of which nothing is given, whose queue is pending.
+fn store_over(alloc: Global, host: MemHost) -> Result<Store<()>, Fail> {
+    let mut rings = Vec::new(alloc);
+    rings.push(VringState::new(256)?)?;
+    let mut numbers = Pending::new(alloc);
+    numbers.insert(0)?;
+    let mut pending = Vec::new(alloc);
+    pending.push(numbers)?;
+    Ok(Store {
+        memory: GuestMemory::new(alloc),
+        rings,
+        host,
+        pending,
+    })
+}
+
+/// Opens the worker over parts that tell what they hold, plays these turns, and hands the worker back.
+fn after_over_store(
+    rt: &impl Abort,
+    alloc: Global,
+    store: &mut Store<()>,
+    labels: &[Label],
+) -> Result<VringEpollHandler, Fail> {
+    let constants = one_worker(alloc)?;
+    let mut service = Quiet {};
+    let mut parts = OwnedParts {
+        store,
+        service: &mut service,
+        constants: &constants,
+    };
+    after(rt, alloc, &mut parts, labels)
+}
+
+#[test]
+fn a_pending_queue_is_looked_at(rt: HostRuntime) -> Result<(), Fail> {
+    let alloc = rt.alloc();
+    let mut store = store_over(alloc, rung_host(alloc)?)?;
+    let swept = [
+        Label::Poll { object: 0 },
+        Label::Event,
+        Label::Sweep,
+        Label::Take,
+        Label::Pass,
+    ];
+    let worker = after_over_store(&rt, alloc, &mut store, &swept)?;
+    assert!(rt; matches!(worker.phase(), Phase::Idle));
+    Ok(())
+}
+
+#[test]
+fn a_poll_that_fails_stops_the_worker(rt: HostRuntime) -> Result<(), Fail> {
+    let alloc = rt.alloc();
+    let mut store = store_over(alloc, failing_host(alloc)?)?;
+    let worker = after_over_store(&rt, alloc, &mut store, &[Label::Pass])?;
+    let stopped = match worker.phase() {
+        Phase::Stopped(cause) => Some(*cause),
+        _ => None,
+    };
+    assert_eq!(rt; stopped, Some(StopCause::Fault(VringEpollError::EpollWait)));
+    assert_eq!(rt; store.host.faults(), 1);
+    Ok(())
+}
