@@ -1,1 +1,26 @@
-mod Numbered
+pub mod Acting
+pub mod Claims
+pub mod ContentsFrom
+pub mod Counted
+pub mod Flags
+pub mod Kept
+pub mod Longer
+pub mod MaskBits
+pub mod NewEvents
+pub mod NewLists
+pub mod NewRings
+pub mod Numbered
+pub mod OneOutcome
+pub mod OpenedFor
+pub mod OpenedWorkers
+pub mod Outcomes
+pub mod Placing
+pub mod Rests
+pub mod Rings
+pub mod Runs
+pub mod Stepping
+pub mod TableGiven
+pub mod Turned
+pub mod Uses
+pub mod ValidParts
+pub mod WorkerCount

@@ -1,1 +1,12 @@
-pub mod Given
+pub mod Flags
+pub mod Hosts
+pub mod Machine
+pub mod Opened
+pub mod Outcome
+pub mod Places
+pub mod Played
+pub mod Recorded
+pub mod Refused
+pub mod Rest
+pub mod Runs
+pub mod Workers

@@ -1,39 +1,45 @@
+//! What a device never changes.
+ghost use Rattle.std.specs.Prelude.{◌≡◌, ℕ, List, Option, map, IfOk};
+ghost use Rattle.std.specs.List.{range_with_len};
+ghost use Rattle.vub_model.specs.Constants.{constants_of};
+
 use std::alloc::Global;
-use vub_base::OutOfMemory;
+use vub_base::{Listed, OutOfMemory};
+use vub_model::Constants;
 use vub_proto::VhostUserBackendMut;
 
-/// The greatest number of workers.
-pub(crate) const MOST_WORKERS: usize = 64;
-
-/// What a device never changes.
-#[derive(Drop)]
-pub(crate) struct Constants {
-    /// The number of queues.
-    pub queues: usize,
-    /// The greatest size of a queue, in descriptors.
-    pub max: usize,
-    /// For each worker the mask of its queues.
-    pub masks: Vec<u64>,
-    /// For each worker, of the first 64, its exit object.
-    pub exits: Vec<Option<u32>>,
+/// The exit objects of the first `count` workers.
+fn exits_of<D: VhostUserBackendMut>(
+    alloc: Global,
+    device: &D,
+    count: usize,
+) -> Result<Vec<Option<u32>>, OutOfMemory>
+    ensures { IfOk result (λ exits. exits.items ≡ map (D.exit_of device.now) (range_with_len 0 count)) }
+{
+    let exits = (0..count)
+        .map(|worker| device.exit_event(worker))
+        .collect(alloc)?;
+    Ok(exits)
 }
 
-impl Constants {
-    /// Asks the device for its constants.
-    pub fn read<D: VhostUserBackendMut>(
-        alloc: Global,
-        device: &D,
-    ) -> Result<Constants, OutOfMemory> {
-        let masks = device.queues_per_thread(alloc)?;
-        let mut exits = Vec::new(alloc);
-        for worker in 0..masks.len().min(MOST_WORKERS) {
-            exits.push(device.exit_event(worker))?;
-        }
-        Ok(Constants {
-            queues: device.num_queues(),
-            max: device.max_queue_size(),
-            masks,
-            exits,
-        })
-    }
+/// Asks a device for its constants, and for each of its workers once for the exit object.
+///
+/// # Errors
+/// Want of memory.
+pub(crate) fn read_constants<D: VhostUserBackendMut>(
+    alloc: Global,
+    device: &D,
+) -> Result<Constants, OutOfMemory>
+    ensures { IfOk result (λ c. c ≡ constants_of (D.queue_count device.now) (D.greatest_size device.now) (D.offered device.now) (D.protocol_offered device.now) (D.masks device.now) (D.exit_of device.now)) }
+{
+    let masks = device.queues_per_thread(alloc)?;
+    let exits = exits_of(alloc, device, masks.len())?;
+    Ok(Constants {
+        queues: device.num_queues(),
+        max: device.max_queue_size(),
+        features: device.features(),
+        protocol: device.protocol_features(),
+        masks: Listed::from_vec(masks),
+        exits: Listed::from_vec(exits),
+    })
 }

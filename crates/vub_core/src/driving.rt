@@ -1,44 +1,112 @@
-use crate::constants::Constants;
+ghost use Rattle.std.specs.Prelude.{◌≡◌, ◌<◌, ◌+◌, ◌^◌, length, IfOk, IfErr};
+ghost use Rattle.vub_model.specs.Constants.{constants_of};
+ghost use Rattle.vub_model.specs.Opening.{opening, wiring_of};
+ghost use Rattle.vub_model.specs.Service.{meaning};
+ghost use Rattle.vub_model.specs.ValidSetup.{IsValid};
+ghost use Rattle.vub_core.specs.Hosts.{NeverFails};
+ghost use Rattle.vub_core.specs.Machine.{world_of};
+ghost use Rattle.vub_core.specs.Outcome.{IsPlayed, IsRefused};
+ghost use Rattle.vub_core.specs.Workers.{AreHandlers};
+
+use crate::constants::read_constants;
+use crate::finish::finish;
+use crate::machine::Machine;
 use crate::opening::open;
+use crate::playing::play;
 use std::alloc::Global;
-use vub_model::{DriveFault, Run, Setup};
+use vub_model::{Constants, DriveFault, Run, Setup};
 use vub_proto::{Service, VhostUserBackendMut};
 
+/// Turns are fewer than this: the labels of more would not fit into memory.
+const MOST_TURNS: usize = 1 << 60;
+
+/// Want of memory before the first turn.
+const NO_MEMORY: DriveFault = DriveFault::OutOfMemory { done: 0 };
+
+/// Plays a schedule on a machine that was opened.
+fn play_opened<V: Service>(
+    alloc: Global,
+    machine: Machine,
+    setup: &Setup,
+    service: &mut V,
+    constants: &Constants,
+    schedule: &[u32],
+) -> Result<Run, DriveFault>
+    requires opened { world_of (wiring_of constants.now (length setup.now.objects)) setup.now.guest machine (tt {0}) ≡ opening constants.now setup.now (tt {0}) }
+    requires workers { AreHandlers (wiring_of constants.now (length setup.now.objects)) 0 machine.workers.items }
+    requires sound { NeverFails machine.store.host }
+    requires valid { IsValid constants.now setup.now }
+    requires numbers { length setup.now.objects + length constants.now.masks < 2 ^ 32 }
+    ensures played { IfOk result (IsPlayed (meaning V.reply_of V.after) constants.now setup.now schedule.now service.old service.new) }
+    ensures refused { IfErr result (IsRefused (meaning V.reply_of V.after) constants.now setup.now schedule.now service.old service.new) }
+{
+    if schedule.len() >= MOST_TURNS {
+        return Err(NO_MEMORY);
+    }
+    let mut machine = machine;
+    let guest = setup.guest.as_slice();
+    let mut labels = match Vec::with_capacity(alloc, schedule.len()) {
+        Ok(labels) => labels,
+        Err(_) => return Err(NO_MEMORY),
+    };
+    match play(
+        alloc,
+        &mut machine,
+        service,
+        constants,
+        guest,
+        schedule,
+        &mut labels,
+    ) {
+        Err(_) => Err(DriveFault::OutOfMemory {
+            done: labels.len() as u64,
+        }),
+        Ok(()) => {
+            let done = labels.len() as u64;
+            match finish(
+                alloc,
+                machine,
+                &*service,
+                setup.objects.as_slice(),
+                guest,
+                labels,
+            ) {
+                Ok(run) => Ok(run),
+                Err(_) => Err(DriveFault::OutOfMemory { done }),
+            }
+        }
+    }
+}
+
 /// Opens a set-up and plays a schedule, one step a turn: party 0 is the guest, party 1 is control, and party 2 + w is
-/// worker w. A turn of a party that has no step, or is not there, is `Pass`. Each poll gives the ready object with the
+/// worker w. A turn of a party that has no step, or is not there, is `Pass`. Each poll takes the ready object with the
 /// least number.
 ///
+/// The run is one of the machine of party turns, from the opening of the set-up. Each queue took its entries once and in
+/// order, numbered from its base, and used each with the service's reply to the bytes read at taking, but for at most one
+/// in flight or held; and at rest a calm running queue has no entry left.
+///
 /// # Errors
-/// The first test of `SetupFault` that fails; or want of memory, where `done` turns are finished and the refused step has
-/// changed nothing.
+/// The first test of `SetupFault` that the set-up fails, and then the service was not asked; or want of memory, where
+/// `done` turns are finished, the refused step has changed nothing, and the service is as those turns left it.
 pub fn drive<D: VhostUserBackendMut, V: Service>(
     alloc: Global,
     setup: &Setup,
     device: &mut D,
     service: &mut V,
     schedule: &[u32],
-) -> Result<Run, DriveFault> {
-    let constants = match Constants::read(alloc, device) {
+) -> Result<Run, DriveFault>
+    ensures played { IfOk result (IsPlayed (meaning V.reply_of V.after) (constants_of (D.queue_count device.old) (D.greatest_size device.old) (D.offered device.old) (D.protocol_offered device.old) (D.masks device.old) (D.exit_of device.old)) setup.now schedule.now service.old service.new) }
+    ensures refused { IfErr result (IsRefused (meaning V.reply_of V.after) (constants_of (D.queue_count device.old) (D.greatest_size device.old) (D.offered device.old) (D.protocol_offered device.old) (D.masks device.old) (D.exit_of device.old)) setup.now schedule.now service.old service.new) }
+    ensures device { device.new ≡ device.old }
+{
+    let constants = match read_constants(alloc, &*device) {
         Ok(constants) => constants,
-        Err(_) => return Err(DriveFault::OutOfMemory { done: 0 }),
+        Err(_) => return Err(NO_MEMORY),
     };
-    let mut machine = open(alloc, setup, &constants)?;
-    let guest = setup.guest.as_slice();
-    let mut labels = Vec::with_capacity(alloc, schedule.len()).map_err(|_| DriveFault::OutOfMemory {
-        done: 0,
-    })?;
-    for party in schedule {
-        let done = labels.len() as u64;
-        if labels.reserve(1).is_err() {
-            return Err(DriveFault::OutOfMemory { done });
-        }
-        match machine.turn(alloc, service, guest, *party) {
-            Ok(label) => labels.push(label).unwrap(),
-            Err(_) => return Err(DriveFault::OutOfMemory { done }),
-        }
-    }
-    let done = labels.len() as u64;
-    machine
-        .finish(alloc, setup.objects.as_slice(), guest, labels)
-        .map_err(|_| DriveFault::OutOfMemory { done })
+    let machine = match open(alloc, setup, &constants) {
+        Ok(machine) => machine,
+        Err(fault) => return Err(fault),
+    };
+    play_opened(alloc, machine, setup, service, &constants, schedule)
 }

@@ -3,17 +3,25 @@
 #![tactic(auto)]
 
 mod constants;
+mod counting;
 mod driving;
-mod events;
+#[cfg(test)]
+mod fault_tests;
 mod faults;
+mod finish;
+mod footprint;
 mod machine;
+mod new_host;
+mod new_rings;
 mod opening;
-mod phase;
-mod queues;
+mod places;
+mod playing;
 mod records;
-mod ring;
-mod shared;
-mod worker;
+mod registering;
+mod rest;
+mod spans;
+mod testing;
+mod turns;
 mod written;
 
 pub use driving::drive;

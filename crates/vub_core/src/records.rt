@@ -1,9 +1,16 @@
-ghost use Rattle.std.specs.Prelude.{◌≡◌, ◌+◌, ◌<◌, OnOk, OnErr, vec_len};
-ghost use Rattle.std.specs.Vec.{vec_capacity};
+ghost use Rattle.std.specs.Prelude.{◌≡◌, ◌⊎◌, ◌++◌, ◌∷◌, [], map, OnOk, OnErr, IfOk, IsSome};
+ghost use Rattle.vub_model.specs.declared.label.Label.{Label};
+ghost use Rattle.vub_model.specs.World.{takes_by, used_of};
+ghost use Rattle.vub_model.specs.Opening.{unwritten};
+ghost use Rattle.vub_core.specs.Recorded.{uses_in, left_none, IsWritten};
 
+use crate::footprint::Footprint;
+use crate::written::Written;
 use std::alloc::Global;
-use vub_base::OutOfMemory;
-use vub_model::Take;
+use vub_base::{Bytes, OutOfMemory};
+use vub_loop::Finished;
+use vub_mem::GuestMemory;
+use vub_model::{Label, Object, Phase, Take};
 use vub_proto::Used;
 
 /// What a run records of its steps.
@@ -11,51 +18,143 @@ use vub_proto::Used;
 pub(crate) struct Records {
     pub takes: Vec<Take>,
     pub uses: Vec<Used>,
+    pub written: Written,
+}
+
+/// Appends the entry that a Take gave, if it gave one.
+fn push_take(
+    alloc: Global,
+    takes: &mut Vec<Take>,
+    label: Label,
+    phase: &Phase,
+) -> Result<(), OutOfMemory>
+    ensures ok { OnOk result (takes.new.items ≡ takes.old.items ++ takes_by label phase.now) }
+    ensures err { OnErr result (label ≡ Label.Take) }
+{
+    match (label, phase) {
+        (Label::Take, Phase::Taken(entry, _)) => {
+            let request = Bytes::from_slice(alloc, entry.chain.request.as_slice())?;
+            takes.push(Take {
+                queue: entry.queue,
+                epoch: entry.epoch,
+                number: entry.number,
+                head: entry.chain.head,
+                request,
+                room: entry.chain.room,
+            })?;
+            Ok(())
+        }
+        _ => Ok(()),
+    }
+}
+
+/// Appends the use of an entry with its reply.
+fn push_use(uses: &mut Vec<Used>, finished: Finished) -> Result<(), OutOfMemory>
+    ensures { OnOk result (uses.new.items ≡ uses.old.items ++ used_of finished.entry finished.reply ∷ []) }
+{
+    let Finished { entry, reply } = finished;
+    uses.push(Used {
+        queue: entry.queue,
+        epoch: entry.epoch,
+        number: entry.number,
+        head: entry.chain.head,
+        reply,
+    })?;
+    Ok(())
+}
+
+/// Appends the use that a step made, if it made one.
+fn push_finished(uses: &mut Vec<Used>, finished: Option<Finished>) -> Result<(), OutOfMemory>
+    ensures ok { OnOk result (uses.new.items ≡ uses.old.items ++ uses_in finished) }
+    ensures err { OnErr result (IsSome finished) }
+{
+    match finished {
+        None => Ok(()),
+        Some(finished) => push_use(uses, finished),
+    }
+}
+
+/// Whether a Take that ended in this phase found nothing.
+fn left_none(label: Label, phase: &Phase) -> bool
+    ensures { result ≡ left_none label phase.now }
+{
+    match (label, phase) {
+        (Label::Take, Phase::Idle) => true,
+        (Label::Take, Phase::Serving(_)) => true,
+        _ => false,
+    }
+}
+
+/// Flags the bytes that a step wrote, which ended in this phase.
+fn flag(
+    written: &mut Written,
+    memory: &GuestMemory<()>,
+    footprint: Footprint,
+    label: Label,
+    phase: &Phase,
+    finished: &Option<Finished>,
+)
+    ensures { IsWritten memory.now.guest.regions footprint label phase.now finished.now written.old written.new }
+{
+    match footprint {
+        Footprint::Nothing => {}
+        Footprint::Use(place) => {
+            if let Some(finished) = finished {
+                written.flag_use(
+                    memory,
+                    place,
+                    &finished.entry.chain,
+                    finished.reply.as_slice(),
+                );
+            }
+        }
+        Footprint::Event(place) => {
+            if left_none(label, phase) {
+                written.flag_event(memory, place);
+            }
+        }
+    }
 }
 
 impl Records {
-    pub fn new(alloc: Global) -> Records {
-        Records {
+    /// Nothing was taken, used or written.
+    pub fn new(alloc: Global, objects: &[Object]) -> Result<Records, OutOfMemory>
+        ensures takes { IfOk result (λ r. r.takes.items ≡ []) }
+        ensures uses { IfOk result (λ r. r.uses.items ≡ []) }
+        ensures written { IfOk result (λ r. r.written ≡ map unwritten objects.now) }
+    {
+        Ok(Records {
             takes: Vec::new(alloc),
             uses: Vec::new(alloc),
-        }
+            written: Written::new(alloc, objects)?,
+        })
     }
 
-    /// Makes room for the record of a take.
-    pub fn reserve_take(&mut self) -> Result<(), OutOfMemory>
-        ensures { OnOk result (vec_len self.new.takes < vec_capacity self.new.takes) }
+    /// Records a worker's step of this label, which could write the words of the footprint, ended in this phase and
+    /// finished this entry.
+    pub fn record(
+        &mut self,
+        alloc: Global,
+        memory: &GuestMemory<()>,
+        footprint: Footprint,
+        label: Label,
+        phase: &Phase,
+        finished: Option<Finished>,
+    ) -> Result<(), OutOfMemory>
+        ensures takes { OnOk result (self.new.takes.items ≡ self.old.takes.items ++ takes_by label phase.now) }
+        ensures uses { OnOk result (self.new.uses.items ≡ self.old.uses.items ++ uses_in finished) }
+        ensures err { OnErr result ((label ≡ Label.Take) ⊎ IsSome finished) }
+        ensures written { IsWritten memory.now.guest.regions footprint label phase.now finished self.old.written self.new.written }
     {
-        self.takes.reserve(1)?;
-        Ok(())
-    }
-
-    /// Makes room for the record of a use.
-    pub fn reserve_use(&mut self) -> Result<(), OutOfMemory>
-        ensures { OnOk result (vec_len self.new.uses < vec_capacity self.new.uses) }
-    {
-        self.uses.reserve(1)?;
-        Ok(())
-    }
-
-    /// Appends the record of a take, for which there is room.
-    pub fn push_take(&mut self, take: Take)
-        requires { vec_len self.old.takes < vec_capacity self.old.takes }
-    {
-        self.takes.push(take).unwrap();
-    }
-
-    /// Appends the record of a use, for which there is room.
-    pub fn push_use(&mut self, used: Used)
-        requires { vec_len self.old.uses < vec_capacity self.old.uses }
-    {
-        self.uses.push(used).unwrap();
-    }
-
-    /// The request of the take with this place.
-    pub fn request(&self, take: usize) -> &[u8] {
-        match self.takes.get(take) {
-            Some(take) => take.request.as_slice(),
-            None => &[],
-        }
+        flag(
+            &mut self.written,
+            memory,
+            footprint,
+            label,
+            phase,
+            &finished,
+        );
+        push_finished(&mut self.uses, finished)?;
+        push_take(alloc, &mut self.takes, label, phase)
     }
 }

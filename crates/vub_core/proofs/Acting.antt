@@ -1,0 +1,22 @@
+-- An action of the guest is a turn of the guest.
+use Rattle.std.proofs.Common.{◌≡◌, ◌≢◌, ℕ, ◌+◌, ◌-◌, ◌<◌, ◌==◌, List, [], ◌∷◌, length, drop, get_or, refl, sym, ap, ◌∙◌}
+use Rattle.std.proofs.lemmas.Bool.{cond-false, ne_eqb}
+use Rattle.std.proofs.lemmas.List.{drop_more}
+use Rattle.vub_model.specs.declared.label.Label.TheVariants as label
+use Rattle.vub_model.specs.declared.party.Party.TheVariants as party
+use Rattle.vub_model.specs.declared.setup.Guest.{Guest}
+use Rattle.vub_model.specs.Held.{Held}
+use Rattle.vub_model.specs.Service.{Meaning}
+use Rattle.vub_model.specs.World.{World, acted, after_guest}
+use Rattle.vub_model.specs.RunOf.{Turn, party_of}
+
+pub guest-turned : {V : Type 0} (m : Meaning V) (w : World V) (guest : List Guest) (done : ℕ) (action : Guest) (new : Held V) → w.guest ≡ drop done guest → done < length guest → action ≡ get_or guest done action → new ≡ acted w.held action → Turn m w party.Guest label.Guest (record w { held = new; guest = drop (done + 1) guest })
+guest-turned m w guest done action new left within here is =
+    let next : w.guest ≡ action ∷ drop (done + 1) guest = left ∙ drop_more guest done action within ∙ ap (λ a. a ∷ drop (done + 1) guest) (sym here) in (
+      (λ none. let bad : action ∷ drop (done + 1) guest ≡ [] = sym next ∙ none in absurd cc),
+      ap (λ h. record w { held = h; guest = drop (done + 1) guest }) is ∙ ap (λ gs. after_guest w gs) (sym next),
+    )
+
+-- a party with a greater number is a worker
+pub party-worker : (p : ℕ) → (p ≡ 0 → ⊥) → (p ≡ 1 → ⊥) → party_of p ≡ party.Worker (p - 2)
+party-worker p not-guest not-control = cond-false (p == 0) party.Guest _ (ne_eqb p 0 not-guest) ∙ cond-false (p == 1) party.Control _ (ne_eqb p 1 not-control)

@@ -1,0 +1,52 @@
+-- A valid set-up and a schedule have one outcome: two runs that are handed back are the same in each field.
+use Rattle.std.proofs.Common.{◌≡◌, ◌↔◌, ℕ, Bool, true, false, IsTrue, List, refl, sym, ap, subst, ◌∙◌}
+use Rattle.vub_model.specs.declared.constants.Constants.{Constants}
+use Rattle.vub_model.specs.declared.label.Label.{Label}
+use Rattle.vub_model.specs.declared.run.Run.{Run}
+use Rattle.vub_model.specs.declared.setup.Object.{Object}
+use Rattle.vub_model.specs.declared.setup.Setup.{Setup}
+use Rattle.vub_model.specs.Opening.{opening}
+use Rattle.vub_model.specs.RunOf.{IsAtRest}
+use Rattle.vub_model.specs.RunRecords.{Shows}
+use Rattle.vub_model.specs.Service.{Meaning}
+use Rattle.vub_model.specs.World.{World}
+use Rattle.vub_model.proofs.OneRun.{one-run}
+use Rattle.vub_core.specs.Outcome.{IsPlayed}
+
+-- two answers are the same that are true exactly where the same holds
+one-answer : (P : Type 0) (answer other : Bool) → IsTrue answer ↔ P → IsTrue other ↔ P → answer ≡ other
+one-answer P true true is other-is = refl
+one-answer P true false is other-is = sym (other-is.1 (is.0 refl))
+one-answer P false true is other-is = is.1 (other-is.0 refl)
+one-answer P false false is other-is = refl
+
+-- two runs are the same whose fields are the same
+same-fields : (run other : Run) → run.labels ≡ other.labels → run.takes ≡ other.takes → run.uses ≡ other.uses → run.stops ≡ other.stops → run.counts ≡ other.counts → run.written ≡ other.written → run.rest ≡ other.rest → run ≡ other
+same-fields run other labels takes uses stops counts written rest =
+    ap (λ x. record run { labels = x }) labels
+    ∙ ap (λ x. record run { labels = other.labels; takes = x }) takes
+    ∙ ap (λ x. record run { labels = other.labels; takes = other.takes; uses = x }) uses
+    ∙ ap (λ x. record run { labels = other.labels; takes = other.takes; uses = other.uses; stops = x }) stops
+    ∙ ap (λ x. record other { counts = x; written = run.written; rest = run.rest }) counts
+    ∙ ap (λ x. record other { written = x; rest = run.rest }) written
+    ∙ ap (λ x. record other { rest = x }) rest
+
+-- what a run hands back is a function of its labels and of the world in which it ends
+one-shown : {V : Type 0} (objects : List Object) (labels : List Label) (closing : World V) (run other : Run) → Shows objects labels closing run → Shows objects labels closing other → run ≡ other
+one-shown objects labels closing run other shows other-shows =
+    same-fields run other
+    (shows.labels_are ∙ sym other-shows.labels_are)
+    (shows.takes_are ∙ sym other-shows.takes_are)
+    (shows.uses_are ∙ sym other-shows.uses_are)
+    (shows.stops_are ∙ sym other-shows.stops_are)
+    (shows.counts_are ∙ sym other-shows.counts_are)
+    (shows.written_is ∙ sym other-shows.written_is)
+    (one-answer (IsAtRest closing) run.rest other.rest shows.rests other-shows.rests)
+
+-- a schedule has one run
+pub one-outcome : {V : Type 0} (m : Meaning V) (k : Constants) (setup : Setup) (schedule : List ℕ) (v end other-end : V) (run other : Run) → IsPlayed m k setup schedule v end run → IsPlayed m k setup schedule v other-end other → run ≡ other
+one-outcome {V} m k setup schedule v end other-end run other played other-played =
+    let same = one-run m schedule run.labels other.labels (opening k setup v) played.closing other-played.closing played.is_run played.least other-played.is_run other-played.least in
+    let L : List Label → Type 0 = λ ls. Shows setup.objects ls other-played.closing other in
+    let C : World V → Type 0 = λ w. Shows setup.objects run.labels w other in
+    one-shown setup.objects run.labels played.closing run other played.shows (subst C (sym same.1) (subst L (sym same.0) other-played.shows))

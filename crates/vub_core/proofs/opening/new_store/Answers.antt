@@ -1,0 +1,12 @@
+use Rattle.std.proofs.Common.{List, sym, subst}
+use Rattle.std.specs.List.{AllByRecursion}
+use Rattle.vub_model.specs.declared.setup.GivenRing.{GivenRing}
+use Rattle.vub_core.specs.Opened.{IsFit}
+use Rattle.vub_core.proofs.ValidParts.{valid_rings}
+use Rattle.vub_core.proofs.opening.new_store.Goals as goal
+
+pub open_rings-requires-clause-fit : goal.open_rings-requires-clause-fit
+open_rings-requires-clause-fit c =
+    let max = c.args.constants.now.max in
+    let AllFit : List GivenRing → Type 0 = λ rings. AllByRecursion (λ r. IsFit max r) rings in
+    subst AllFit (sym c.as_slice-2.ensures) (valid_rings c.args.constants.now c.args.setup.now c.requires.valid).fit

@@ -1,0 +1,8 @@
+use Rattle.std.proofs.Common.{◌≡◌, map}
+use Rattle.std.specs.List.{range_with_len}
+use Rattle.vub_model.specs.Opening.{opened_worker}
+use Rattle.vub_loop.specs.Handler.{new_handler}
+use Rattle.vub_core.proofs.opening.open_handlers.Given as goal
+
+abbrev pub invariant-loop-worker : goal.invariant-loop-worker
+invariant-loop-worker l = l.handlers.items ≡ map (λ w. new_handler l.constants (opened_worker l.count l.constants.exits w)) (range_with_len 0 l.worker)

@@ -1,0 +1,72 @@
+//! A schedule, one turn after the other.
+ghost use Rattle.std.specs.Prelude.{◌≡◌, ℕ, [], length, IfOk, OnOk, OnErr};
+ghost use Rattle.vub_model.specs.Service.{meaning};
+ghost use Rattle.vub_model.specs.RunOf.{Turn, IsLeast, party_of};
+ghost use Rattle.vub_model.specs.Wiring.{Wiring};
+ghost use Rattle.vub_core.specs.Hosts.{NeverFails};
+ghost use Rattle.vub_core.specs.Machine.{world_of};
+ghost use Rattle.vub_core.specs.Played.{HasPlayed, WasCutShort};
+ghost use Rattle.vub_core.specs.Workers.{AreHandlers};
+
+use crate::machine::Machine;
+use crate::turns::{guest_turn, worker_turn};
+use std::alloc::Global;
+use vub_base::OutOfMemory;
+use vub_model::{Constants, Guest, Label};
+use vub_proto::Service;
+
+/// One turn: party 0 is the guest, party 1 is control, which has no step yet, and party 2 + w is worker w.
+///
+/// # Errors
+/// Want of memory leaves the service as it was.
+fn turn<V: Service>(
+    alloc: Global,
+    machine: &mut Machine,
+    service: &mut V,
+    constants: &Constants,
+    guest: &[Guest],
+    party: u32,
+) -> Result<Label, OutOfMemory>
+    requires { NeverFails machine.old.store.host }
+    ensures turn { (g : Wiring) → AreHandlers g 0 machine.old.workers.items → IfOk result (λ l. Turn (meaning V.reply_of V.after) (world_of g guest.now machine.old service.old) (party_of party) l (world_of g guest.now machine.new service.new)) }
+    ensures least { (g : Wiring) → AreHandlers g 0 machine.old.workers.items → IfOk result (λ l. IsLeast (world_of g guest.now machine.old service.old) (party_of party) l) }
+    ensures workers { (g : Wiring) → AreHandlers g 0 machine.old.workers.items → AreHandlers g 0 machine.new.workers.items }
+    ensures count { length machine.new.workers.items ≡ length machine.old.workers.items }
+    ensures sound { NeverFails machine.new.store.host }
+    ensures err { (g : Wiring) → AreHandlers g 0 machine.old.workers.items → OnErr result (service.new ≡ service.old) }
+{
+    match party {
+        0 => Ok(guest_turn(machine, &*service, guest)),
+        1 => Ok(Label::Pass),
+        _ => worker_turn(alloc, machine, service, constants, party - 2),
+    }
+}
+
+/// Plays a schedule, and appends the label of each turn.
+///
+/// # Errors
+/// Want of memory: the turns whose labels are there are finished, and the service is as they left it.
+pub(crate) fn play<V: Service>(
+    alloc: Global,
+    machine: &mut Machine,
+    service: &mut V,
+    constants: &Constants,
+    guest: &[Guest],
+    schedule: &[u32],
+    labels: &mut Vec<Label>,
+) -> Result<(), OutOfMemory>
+    requires sound { NeverFails machine.old.store.host }
+    requires none { labels.old.items ≡ [] }
+    ensures played { (g : Wiring) → AreHandlers g 0 machine.old.workers.items → OnOk result (HasPlayed (meaning V.reply_of V.after) schedule.now labels.new.items (world_of g guest.now machine.old service.old) (world_of g guest.now machine.new service.new)) }
+    ensures cut { (g : Wiring) → AreHandlers g 0 machine.old.workers.items → OnErr result (WasCutShort (meaning V.reply_of V.after) schedule.now labels.new.items (world_of g guest.now machine.old service.old) service.new) }
+    ensures workers { (g : Wiring) → AreHandlers g 0 machine.old.workers.items → AreHandlers g 0 machine.new.workers.items }
+    ensures count { length machine.new.workers.items ≡ length machine.old.workers.items }
+    ensures sound { NeverFails machine.new.store.host }
+{
+    for party in schedule {
+        labels.reserve(1)?;
+        let label = turn(alloc, machine, service, constants, guest, *party)?;
+        labels.push(label).unwrap();
+    }
+    Ok(())
+}

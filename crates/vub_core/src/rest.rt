@@ -1,0 +1,77 @@
+//! Whether a party has a step.
+ghost use Rattle.std.specs.List.{list_all};
+ghost use Rattle.std.specs.Prelude.{◌≡◌, ◌↔◌, List, IsTrue};
+ghost use Rattle.vub_event.specs.HostTable.{ready_members};
+ghost use Rattle.vub_model.specs.declared.setup.Guest.{Guest};
+ghost use Rattle.vub_model.specs.declared.label.Label.{Label};
+ghost use Rattle.vub_model.specs.declared.party.Party.{Party};
+ghost use Rattle.vub_model.specs.Wiring.{Wiring};
+ghost use Rattle.vub_model.specs.Work.{MayWork};
+ghost use Rattle.vub_model.specs.World.{May};
+ghost use Rattle.vub_model.specs.RunOf.{IsAtRest};
+ghost use Rattle.vub_vring.specs.Store.{held_of};
+ghost use Rattle.vub_loop.specs.Handler.{IsHandler, phase_of};
+ghost use Rattle.vub_loop.specs.Plays.{HasNoWork};
+ghost use Rattle.vub_core.specs.Hosts.{NeverFails};
+ghost use Rattle.vub_core.specs.Machine.{world_of};
+ghost use Rattle.vub_core.specs.Rest.{has_report, rests_in};
+ghost use Rattle.vub_core.specs.Workers.{AreHandlers};
+
+use crate::machine::Machine;
+use vub_event::{Host, MemHost};
+use vub_loop::VringEpollHandler;
+use vub_model::{Guest, Phase};
+use vub_proto::Service;
+
+/// Whether a member of this interest list is ready.
+fn has_report(host: &mut MemHost, list: u32) -> bool
+    requires { NeverFails host.old }
+    ensures value { result ≡ has_report host.old.table list }
+    ensures table { host.new.table ≡ host.old.table }
+    ensures sound { NeverFails host.new }
+{
+    match host.ready(list) {
+        Ok(Some(_)) => true,
+        _ => false,
+    }
+}
+
+/// Whether a worker has no step.
+fn worker_rests(host: &mut MemHost, worker: &VringEpollHandler) -> bool
+    requires { NeverFails host.old }
+    ensures value { result ≡ rests_in host.old.table worker.now.opened.list (phase_of worker.now) }
+    ensures table { host.new.table ≡ host.old.table }
+    ensures sound { NeverFails host.new }
+{
+    match worker.phase() {
+        Phase::Idle => !has_report(host, worker.opened().list),
+        Phase::Heard { .. } | Phase::Stopped(_) => true,
+        _ => false,
+    }
+}
+
+/// Whether no worker has a step.
+fn workers_rest(host: &mut MemHost, workers: &[VringEpollHandler]) -> bool
+    requires { NeverFails host.old }
+    ensures value { result ≡ list_all (λ w. rests_in host.old.table w.opened.list (phase_of w)) workers.now }
+    ensures table { host.new.table ≡ host.old.table }
+    ensures sound { NeverFails host.new }
+{
+    for worker in workers {
+        if !worker_rests(host, worker) {
+            return false;
+        }
+    }
+    true
+}
+
+/// Whether no party has a step.
+
+pub(crate) fn at_rest<V: Service>(machine: &mut Machine, service: &V, guest: &[Guest]) -> bool
+    requires { NeverFails machine.old.store.host }
+    ensures rests { (g : Wiring) → AreHandlers g 0 machine.old.workers.items → IsTrue result ↔ IsAtRest (world_of g guest.now machine.old service.now) }
+    ensures same { (g : Wiring) → world_of g guest.now machine.new service.now ≡ world_of g guest.now machine.old service.now }
+    ensures workers { machine.new.workers ≡ machine.old.workers }
+{
+    machine.acted >= guest.len() && workers_rest(&mut machine.store.host, &machine.workers)
+}
