@@ -1,9 +1,10 @@
 -- What an input is, by its bytes alone, and what it calls for.
-use Rattle.std.specs.Prelude.{◌≡◌, ℕ, ◌<◌, ◌≤◌, List, length, true, false, Some, None, Result, Ok, Err}
+use Rattle.std.specs.Prelude.{◌≡◌, ◌⊎◌, ℕ, ◌<◌, ◌≤◌, List, length, true, false, Some, None, IsSome, Result, Ok, Err}
 use Rattle.vub_model.specs.declared.run.Run.{Run}
 use Rattle.vub_stream.specs.declared.input.TheConstants.{LIMIT}
 use Rattle.vub_script.specs.declared.draft.Draft.{Draft}
-use Rattle.vub_script.specs.Script.{read_draft, is_within}
+use Rattle.vub_script.specs.Script.{read_draft, is_within, script_from}
+use Rattle.vub_share.specs.ScriptRun.{fault_in, IsRunOf}
 use Rattle.vub_share.specs.declared.no_run.NoRun.{NoRun}
 use Rattle.vub_share.specs.declared.no_run.NoRun.TheVariants.{Read, TooLong, NotAScript, SetUp, Memory}
 
@@ -15,21 +16,26 @@ IsTooLong input = LIMIT < length input
 abbrev pub IsNoScript : List ℕ → Type 0
 IsNoScript input = (length input ≤ LIMIT) × (read_draft input ≡ None)
 
-abbrev pub IsScript : List ℕ → Type 0
-IsScript input = (length input ≤ LIMIT) × ((d : Draft) × (read_draft input ≡ Some d))
+-- a script past the limits, or whose set-up fails a test
+abbrev pub IsSetUpRefused : List ℕ → Type 0
+IsSetUpRefused input =
+    (length input ≤ LIMIT) × ((d : Draft) × (read_draft input ≡ Some d) × ((is_within d ≡ false) ⊎ ((is_within d ≡ true) × IsSome (fault_in (script_from d)))))
 
--- a script whose contents are too long together, or that has too many turns
-abbrev pub IsPastLimits : List ℕ → Type 0
-IsPastLimits input = (length input ≤ LIMIT) × ((d : Draft) × (read_draft input ≡ Some d) × (is_within d ≡ false))
+-- a script within the limits whose set-up passes all tests
+abbrev pub IsRunnable : List ℕ → Type 0
+IsRunnable input =
+    (length input ≤ LIMIT) × ((d : Draft) × (read_draft input ≡ Some d) × (is_within d ≡ true) × (fault_in (script_from d) ≡ None))
 
-abbrev pub IsWithinLimits : List ℕ → Type 0
-IsWithinLimits input = (length input ≤ LIMIT) × ((d : Draft) × (read_draft input ≡ Some d) × (is_within d ≡ true))
+-- the headline's run of the script that the input is
+abbrev pub HasRun : List ℕ → Run → Type 0
+HasRun input run =
+    (length input ≤ LIMIT) × ((d : Draft) × (read_draft input ≡ Some d) × (is_within d ≡ true) × IsRunOf (script_from d) run)
 
--- what an input calls for, but for read faults and want of memory: only a script within the limits has a run
+-- what an input calls for, but for read faults and want of memory: only a script within the limits has a run, the headline's
 abbrev pub CallsFor : List ℕ → Result Run NoRun → Type 0
-CallsFor input (Ok run) = IsWithinLimits input
+CallsFor input (Ok run) = HasRun input run
 CallsFor input (Err NotAScript) = IsNoScript input
-CallsFor input (Err SetUp) = IsScript input
+CallsFor input (Err SetUp) = IsSetUpRefused input
 CallsFor input (Err Read) = Unit {0}
 CallsFor input (Err Memory) = Unit {0}
 CallsFor input (Err TooLong) = IsTooLong input

@@ -2,3 +2,4 @@ pub mod Statuses
 pub mod Device
 pub mod Endings
 pub mod Inputs
+pub mod ScriptRun

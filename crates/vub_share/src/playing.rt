@@ -1,7 +1,8 @@
-ghost use Rattle.std.specs.Prelude.{◌≡◌, ◌≢◌, ◌⊎◌, ◌≤◌, ℕ, List, length, true, false, IfOk, IfErr, IfSome, Err};
+ghost use Rattle.std.specs.Prelude.{◌≡◌, ◌≢◌, ◌⊎◌, ◌≤◌, ℕ, List, length, true, false, IfOk, IfErr, IfSome, IsSome, Err};
 ghost use Rattle.vub_base.specs.Causes.{Rose};
-ghost use Rattle.vub_script.specs.Script.{is_within};
+ghost use Rattle.vub_script.specs.Script.{is_within, script_from};
 ghost use Rattle.vub_share.specs.Inputs.{CallsFor, SaysEnded};
+ghost use Rattle.vub_share.specs.ScriptRun.{IsRunOf, fault_in, no_run_for};
 
 use crate::device::ScriptDevice;
 use crate::no_run::NoRun;
@@ -14,12 +15,23 @@ use vub_script::{
 };
 use vub_stream::{Input, Source, SourceError, read_input};
 
+/// Why a script has no run, where `drive` gave none.
+fn no_run_for(fault: DriveFault) -> NoRun
+    ensures { result ≡ no_run_for fault }
+{
+    match fault {
+        DriveFault::Setup(_) => NoRun::SetUp,
+        DriveFault::OutOfMemory { .. } => NoRun::Memory,
+    }
+}
+
 /// Plays a script that was written out.
 ///
 /// # Errors
 /// `SetUp` where the set-up can't be run; want of memory.
 fn run_of_script(alloc: Global, script: Script) -> Result<Run, NoRun>
-    ensures err { IfErr result (λ why. (why ≡ NoRun.SetUp) ⊎ (why ≡ NoRun.Memory)) }
+    ensures ok { IfOk result (IsRunOf script) }
+    ensures err { IfErr result (λ why. ((why ≡ NoRun.SetUp) × IsSome (fault_in script)) ⊎ (why ≡ NoRun.Memory)) }
 {
     let Script {
         setup,
@@ -33,8 +45,7 @@ fn run_of_script(alloc: Global, script: Script) -> Result<Run, NoRun>
     };
     match driven {
         Ok(run) => Ok(run),
-        Err(DriveFault::Setup(_)) => Err(NoRun::SetUp),
-        Err(DriveFault::OutOfMemory { .. }) => Err(NoRun::Memory),
+        Err(fault) => Err(no_run_for(fault)),
     }
 }
 
@@ -43,8 +54,8 @@ fn run_of_script(alloc: Global, script: Script) -> Result<Run, NoRun>
 /// # Errors
 /// `SetUp` past a limit, or where the set-up can't be run; want of memory.
 fn run_of_draft(alloc: Global, draft: Draft) -> Result<Run, NoRun>
-    ensures ok { IfOk result (λ _. is_within draft ≡ true) }
-    ensures err { IfErr result (λ why. (why ≡ NoRun.SetUp) ⊎ (why ≡ NoRun.Memory)) }
+    ensures ok { IfOk result (λ run. (is_within draft ≡ true) × IsRunOf (script_from draft) run) }
+    ensures err { IfErr result (λ why. ((why ≡ NoRun.SetUp) × ((is_within draft ≡ false) ⊎ ((is_within draft ≡ true) × IsSome (fault_in (script_from draft))))) ⊎ (why ≡ NoRun.Memory)) }
 {
     if !is_within_limits(&draft) {
         return Err(NoRun::SetUp);

@@ -1,9 +1,10 @@
 ghost use Rattle.std.specs.Prelude.{◌≡◌, ◌⊎◌, ◌↔◌, ◌<◌, ◌≤◌, ℕ, List, length, true, Some, None, IfSome, IsSome, IsNone};
 ghost use Rattle.std.specs.Io.KnownBytes.{Appends};
 ghost use Rattle.vub_base.specs.Causes.{Rose};
+ghost use Rattle.vub_model.specs.declared.run.Run.{Run};
 ghost use Rattle.vub_stream.specs.Whole.{WritesFront};
 ghost use Rattle.vub_text.specs.Text.{run_text};
-ghost use Rattle.vub_share.specs.Inputs.{IsTooLong, IsNoScript, IsScript, IsPastLimits, IsWithinLimits};
+ghost use Rattle.vub_share.specs.Inputs.{IsTooLong, IsNoScript, IsSetUpRefused, IsRunnable, HasRun};
 ghost use Rattle.vub_share.specs.Endings.{IsStatus};
 
 use crate::finished::Finished;
@@ -48,7 +49,7 @@ pub fn run_script<S: Source, K: Sink>(
     ensures read { result.status ≡ 4 → Rose (S.fault_count source.old) (S.fault_count source.new) }
     ensures long { result.status ≡ 7 → IfSome (S.left source.old) IsTooLong }
     ensures script { result.status ≡ 2 → IfSome (S.left source.old) IsNoScript }
-    ensures set_up { result.status ≡ 3 → IfSome (S.left source.old) IsScript }
+    ensures set_up { result.status ≡ 3 → IfSome (S.left source.old) IsSetUpRefused }
     ensures write { result.status ≡ 5 → Rose (K.fault_count sink.old) (K.fault_count sink.new) }
     ensures statuses { result.status ≤ 7 }
 
@@ -57,14 +58,16 @@ pub fn run_script<S: Source, K: Sink>(
         (λ input. length words.now ≡ 0 → IsTooLong input → IsStatus 7 result.status) }
     ensures only_script { IfSome (S.left source.old)
         (λ input. length words.now ≡ 0 → IsNoScript input → IsStatus 2 result.status) }
-    ensures only_limits { IfSome (S.left source.old)
-        (λ input. length words.now ≡ 0 → IsPastLimits input → IsStatus 3 result.status) }
+    ensures only_set_up { IfSome (S.left source.old)
+        (λ input. length words.now ≡ 0 → IsSetUpRefused input → IsStatus 3 result.status) }
     ensures complete { IfSome (S.left source.old)
-        (λ input. length words.now ≡ 0 → IsWithinLimits input
-        → (result.status ≡ 0) ⊎ (result.status ≡ 5) ⊎ IsStatus 3 result.status) }
+        (λ input. length words.now ≡ 0 → IsRunnable input → (result.status ≡ 5) ⊎ IsStatus 0 result.status) }
 
-    // a run is there exactly at 0 and 5; its text was written, or a front of it, and nothing else
-    ensures run { IfSome result.run (λ _. IfSome (S.left source.old) IsWithinLimits) }
+    // a run is there exactly at 0 and 5: the one of the script that was read; its text was written, or a front of it, and
+    // nothing else
+    ensures run { IfSome result.run (λ run. IfSome (S.left source.old) (λ input. HasRun input run)) }
+    ensures only_run { IfSome result.run (λ run. IfSome (S.left source.old)
+        (λ input. (other : Run) → HasRun input other → run ≡ other)) }
     ensures has_run { ((result.status ≡ 0) ⊎ (result.status ≡ 5)) ↔ IsSome result.run }
     ensures text { result.status ≡ 0 → IfSome result.run
         (λ run. Appends (K.taken sink.old) (K.taken sink.new) (run_text run)) }

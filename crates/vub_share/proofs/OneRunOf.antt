@@ -1,0 +1,47 @@
+-- An input has one run.
+use Rattle.std.proofs.Common.{◌≡◌, ◌⊎◌, inl, inr, ℕ, List, Option, Some, None, IfSome, Result, Ok, Err, IfOk, IsSome, is_some, refl, sym, ap, subst, ◌∙◌}
+use Rattle.vub_model.specs.declared.run.Run.{Run}
+use Rattle.vub_script.specs.declared.draft.Draft.{Draft}
+use Rattle.vub_script.specs.Script.{read_draft, script_from}
+use Rattle.vub_core.proofs.OneOutcome.{one-outcome}
+use Rattle.vub_share.specs.Inputs.{HasRun}
+use Rattle.vub_share.specs.ScriptRun.{echo, constants_in, IsRunOf, no_run_for}
+use Rattle.vub_share.specs.declared.no_run.NoRun.TheVariants as why
+use Rattle.vub_model.specs.declared.run.DriveFault.{DriveFault}
+use Rattle.vub_model.specs.declared.run.DriveFault.TheVariants as drive_fault
+use Rattle.vub_model.specs.declared.setup.Setup.{Setup}
+use Rattle.vub_model.specs.ValidSetup.{fault_of}
+use Rattle.vub_proto.specs.declared.echo.Echo.{Echo}
+use Rattle.vub_core.specs.Outcome.{IsRefused}
+use Rattle.vub_script.specs.declared.device_form.DeviceForm.{DeviceForm}
+
+some-same : {A : Type 0} (o : Option A) (a b : A) → o ≡ Some a → o ≡ Some b → a ≡ b
+some-same o a b is are = (let both : Some a ≡ Some b = sym is ∙ are in cc)
+
+one-run-of : (d : Draft) (run other : Run) → IsRunOf (script_from d) run → IsRunOf (script_from d) other → run ≡ other
+one-run-of d run other is are =
+    one-outcome echo (constants_in (script_from d).device) (script_from d).setup (script_from d).schedule (record {}) is.0 are.0 run other is.1 are.1
+
+pub one-of-input : (input : List ℕ) (run other : Run) → HasRun input run → HasRun input other → run ≡ other
+one-of-input input run other is are =
+    let P : Draft → Type 0 = λ d. IsRunOf (script_from d) other in
+    one-run-of is.1.0 run other is.1.3 (subst P (some-same (read_draft input) are.1.0 is.1.0 are.1.1 is.1.1) are.1.3)
+
+pub if-some : {A : Type 0} (o : Option A) (P Q : A → Type 0) → IfSome o P → ((a : A) → P a → Q a) → IfSome o Q
+if-some None P Q is step = tt
+if-some (Some a) P Q is step = step a is
+
+pub if-there : {A : Type 0} (o : Option A) (a : A) (P : A → Type 0) → (o ≡ Some a) ⊎ (o ≡ None) → P a → IfSome o P
+if-there {A} o a P (inl some) p = let Q : Option A → Type 0 = λ x. IfSome x P in subst Q (sym some) p
+if-there {A} o a P (inr none) p = let Q : Option A → Type 0 = λ x. IfSome x P in subst Q (sym none) tt
+
+pub if-ok-and : {T E A : Type 0} (r : Result T E) (P : T → Type 0) → A → IfOk r P → IfOk r (λ x. A × P x)
+if-ok-and (Ok x) P a p = (a, p)
+if-ok-and (Err e) P a p = tt
+
+-- a script whose set-up `drive` refused fails a test
+pub why-none : (form script-form : DeviceForm) (setup : Setup) (turns : List ℕ) (v end : Echo) (fault : DriveFault) → form ≡ script-form → IsRefused echo (constants_in form) setup turns v end fault → ((no_run_for fault ≡ why.SetUp) × IsSome (fault_of (constants_in script-form) setup)) ⊎ (no_run_for fault ≡ why.Memory)
+why-none form script-form setup turns v end (drive_fault.Setup f) same refused =
+    let P : DeviceForm → Type 0 = λ x. fault_of (constants_in x) setup ≡ Some f in
+    inl (refl, ap is_some (subst P same refused.0))
+why-none form script-form setup turns v end (drive_fault.OutOfMemory done) same refused = inr refl
