@@ -1,18 +1,14 @@
 -- Which calls of a host in memory fail: those whose numbers are listed, counted from 0 over the calls that answer a
 -- Result (this project's own). A count stays at 2 ^ 64 - 1 once it is there.
-use Rattle.std.specs.Prelude.{ℕ, ◌≡◌, ◌↔◌, ◌==◌, ◌+◌, ◌-◌, ◌^◌, min, Bool, true, if◌then◌else◌, Result, IsErrOf}
-use Rattle.std.specs.List.{list_any}
+use Rattle.std.specs.Prelude.{◌≡◌, ◌↔◌, Bool, true, if◌then◌else◌, Result, IsErrOf}
+use Rattle.vub_base.specs.Causes.{one_more, is_listed}
 use Rattle.vub_event.specs.declared.error.HostError.{HostError}
 use Rattle.vub_event.specs.declared.error.HostError.TheVariants.{Failed}
 use Rattle.vub_event.specs.declared.fault_plan.FaultPlan.{FaultPlan}
 
 -- the next call is to fail
 abbrev pub is_struck : FaultPlan → Bool
-is_struck plan = list_any (λ n. n == plan.made) plan.calls.items
-
--- a count that stands still at its end
-abbrev pub one_more : ℕ → ℕ
-one_more n = min (n + 1) (2 ^ 64 - 1)
+is_struck plan = is_listed plan.calls.items plan.made
 
 -- a call was counted; it failed exactly where it was to fail, and then the failure was counted
 pub record GoesByPlan {T : Type 0} (old new : FaultPlan) (result : Result T HostError) : Type 0 where

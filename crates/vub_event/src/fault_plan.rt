@@ -1,5 +1,5 @@
-ghost use Rattle.std.specs.Prelude.{◌≡◌, ◌==◌, ◌+◌, ◌-◌, ◌^◌, ◌<◌, min, [], false, if◌then◌else◌};
-ghost use Rattle.std.specs.List.{list_any};
+ghost use Rattle.std.specs.Prelude.{◌≡◌, ◌^◌, ◌<◌, [], false, if◌then◌else◌};
+ghost use Rattle.vub_base.specs.Causes.{one_more, is_listed};
 
 /// Which calls of a host are to fail, and how many have failed.
 #[derive(Debug, Drop)]
@@ -28,12 +28,12 @@ impl FaultPlan {
 
     /// Counts a call, and says whether it is to fail.
     pub fn strikes(&mut self) -> bool
-        ensures answer { result ≡ list_any (λ n. n == self.old.made) self.old.calls.items }
+        ensures answer { result ≡ is_listed self.old.calls.items self.old.made }
         ensures sound { self.old.calls.items ≡ [] → result ≡ false }
         ensures calls { self.new.calls.items ≡ self.old.calls.items }
         ensures small { self.old.faults < 2 ^ 64 }
-        ensures made { self.new.made ≡ min (self.old.made + 1) (2 ^ 64 - 1) }
-        ensures faults { self.new.faults ≡ (if result then min (self.old.faults + 1) (2 ^ 64 - 1) else self.old.faults) }
+        ensures made { self.new.made ≡ one_more self.old.made }
+        ensures faults { self.new.faults ≡ (if result then one_more self.old.faults else self.old.faults) }
     {
         let strikes = self.calls.contains(&self.made);
         let faults = self.faults;
