@@ -1,6 +1,6 @@
 -- The calls of a host as functions of its table: for each call the refusal that is due, what is answered, and the
 -- table that is left. A refused call changes nothing.
-use Rattle.std.specs.Prelude.{ℕ, ◌≡◌, ◌==◌, ◌&&◌, ◌||◌, Bool, true, false, not, if◌then◌else◌, nat_lt, List, [], ◌∷◌, ◌++◌, length, take, map, Option, Some, None, is_some, Result, Ok, Err, Contains, slice_get}
+use Rattle.std.specs.Prelude.{ℕ, ◌≡◌, ◌==◌, ◌&&◌, ◌||◌, Bool, true, false, not, if◌then◌else◌, nat_lt, List, [], ◌∷◌, ◌++◌, take, map, Option, Some, None, is_some, Result, Ok, Err, Contains, slice_get}
 use Rattle.std.specs.Int.RustNames.{bit_and, bit_or}
 use Rattle.vub_event.specs.declared.error.HostError.{HostError}
 use Rattle.vub_event.specs.declared.error.HostError.TheVariants.{EINVAL, EEXIST, ENOENT, EBADF, Held}
@@ -12,7 +12,7 @@ use Rattle.std.specs.declared.vec.Vec.{Vec}
 use Rattle.std.specs.declared.alloc.Global.{Global}
 use Rattle.vub_event.specs.Counter.{write_refusal, written, read_refusal, read_value, after_read}
 use Rattle.vub_event.specs.Errors.{IsDue}
-use Rattle.vub_event.specs.HostTable.{HostTable, event_at, has_event, has_list, members_at, member_at, is_listed, with_event, with_members, ready_members, IsLeastOf}
+use Rattle.vub_event.specs.HostTable.{HostTable, IsNextNumber, event_at, has_event, has_list, members_at, member_at, is_listed, with_event, with_members, ready_members, IsLeastOf}
 use Rattle.vub_event.specs.InterestList.{with_member, with_changed, without_member}
 
 -- A call for which this refusal is due, which else answers by `Said` and leaves this table: it succeeds only where
@@ -35,7 +35,8 @@ abbrev pub with_change : (Event → Event) → HostTable → ℕ → Option Even
 with_change change table object None = table
 with_change change table object (Some event) = with_event table object (Some (change event))
 
--- create_event: the flags are SEMAPHORE 1, NONBLOCK 0x800 and CLOEXEC 0x80000
+-- create_event: the flags are SEMAPHORE 1, NONBLOCK 0x800 and CLOEXEC 0x80000. Where all numbers are given, this and
+-- create_list answer want of memory
 abbrev pub flags_refusal : ℕ → Option HostError
 flags_refusal flags = if bit_or flags 0x80801 == 0x80801 then None else Some EINVAL
 
@@ -47,7 +48,7 @@ create_event_after table flags = record table { objects = table.objects ++ Some 
 
 abbrev pub CreateEventCall : ℕ → Result ℕ HostError → HostTable → HostTable → Type 0
 CreateEventCall flags result old new =
-    Meets (flags_refusal flags) (λ n. n ≡ length old.objects) (create_event_after old flags) result old new
+    Meets (flags_refusal flags) (IsNextNumber old.objects) (create_event_after old flags) result old new
 
 -- create_list
 unfoldable pub create_list_after : HostTable → HostTable
@@ -55,7 +56,7 @@ create_list_after table = record table { lists = table.lists ++ [] ∷ [] }
 
 abbrev pub CreateListCall : Result ℕ HostError → HostTable → HostTable → Type 0
 CreateListCall result old new =
-    Meets None (λ n. n ≡ length old.lists) (create_list_after old) result old new
+    Meets None (IsNextNumber old.lists) (create_list_after old) result old new
 
 -- signal
 unfoldable pub signal_refusal : HostTable → ℕ → ℕ → Option HostError

@@ -1,7 +1,7 @@
 -- The host table (this project's own), after Linux's eventfd(2) and epoll(7): event objects by number, and interest
 -- lists by number. A number is never given twice. Each look-up is total: an object that was never made is as one
 -- that is closed, and a list that was never made has no members.
-use Rattle.std.specs.Prelude.{ℕ, ◌≡◌, ◌≤◌, Contains, Bool, List, [], length, nat_lt, Option, Some, None, is_some, if◌then◌else◌, ◌==◌, slice_index_or, slice_set}
+use Rattle.std.specs.Prelude.{ℕ, ◌≡◌, ◌<◌, ◌≤◌, Contains, Bool, List, [], length, nat_lt, Option, Some, None, is_some, if◌then◌else◌, ◌==◌, slice_index_or, slice_set}
 use Rattle.std.specs.List.{filter_map, list_any}
 use Rattle.vub_event.specs.declared.event.Event.{Event}
 use Rattle.vub_event.specs.declared.member.Member.{Member}
@@ -13,6 +13,10 @@ pub record HostTable : Type 0 where
   -- the object of this number; None where it is closed
   pub objects : List (Option Event)
   pub lists : List (List Member)
+
+-- the number of a new object or list: the least that was never given. The numbers end below 4294967295
+abbrev pub IsNextNumber : {A : Type 0} → List A → ℕ → Type 0
+IsNextNumber made number = (number ≡ length made) × (number < 4294967295)
 
 -- the table of a new host
 abbrev pub empty_table : HostTable

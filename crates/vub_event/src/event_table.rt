@@ -1,4 +1,4 @@
-ghost use Rattle.std.specs.Prelude.{◌≡◌, ◌∷◌, [], is_some};
+ghost use Rattle.std.specs.Prelude.{◌≡◌, ◌<◌, ◌≤◌, ◌∷◌, [], is_some, MatchResult};
 ghost use Rattle.vub_event.specs.HostTable.{empty_table, event_at, has_event, has_list, member_at, members_at, is_listed, with_event, ready_members, IsLeastOf};
 ghost use Rattle.vub_event.specs.HostCalls.{has_both, is_claimed, consume_after, CreateEventCall, CreateListCall, SignalCall, ConsumeCall, AddCall, ModifyCall, DeleteCall, ListenCall, UnlistenCall, ConsumeAsCall, ReadyCall, FirstReadyCall, ReadyManyCall, ClaimCall, release_after, hang_up_after, close_after};
 ghost use Rattle.vub_event.specs.Errors.{RefusesBy};
@@ -32,6 +32,19 @@ const MOST: usize = 4_294_967_295;
 
 /// The flags of a new event object, as eventfd(2) has them: SEMAPHORE, NONBLOCK and CLOEXEC.
 const FLAGS: u32 = 0x8_0801;
+
+/// The number of the next object or list where so many were made.
+///
+/// # Errors
+/// [`HostError::OutOfMemory`] exactly where all numbers are given.
+fn next_number(made: usize) -> Result<u32, HostError>
+    ensures { MatchResult result (λ number. (number ≡ made) × (number < 4294967295)) (λ e. (e ≡ HostError.OutOfMemory) × (4294967295 ≤ made)) }
+{
+    if made >= MOST {
+        return Err(HostError::OutOfMemory);
+    }
+    Ok(made as u32)
+}
 
 impl EventTable {
     /// No object and no list. Takes no memory.
@@ -135,12 +148,9 @@ impl EventTable {
         if flags | FLAGS != FLAGS {
             return Err(HostError::EINVAL);
         }
-        let number = self.objects.len();
-        if number >= MOST {
-            return Err(HostError::OutOfMemory);
-        }
+        let number = next_number(self.objects.len())?;
         self.objects.push(Some(Event::new(flags)))?;
-        Ok(number as u32)
+        Ok(number)
     }
 
     /// As [`Host::create_list`](crate::Host::create_list).
@@ -149,12 +159,9 @@ impl EventTable {
         ensures refusals { RefusesBy result (HostError.OutOfMemory ∷ []) }
         ensures table { CreateListCall result self.old self.new }
     {
-        let number = self.lists.len();
-        if number >= MOST {
-            return Err(HostError::OutOfMemory);
-        }
+        let number = next_number(self.lists.len())?;
         self.lists.push(Members::new(alloc))?;
-        Ok(number as u32)
+        Ok(number)
     }
 
     /// As [`Host::signal`](crate::Host::signal).

@@ -2,7 +2,7 @@
 use Rattle.std.specs.Prelude.{ℕ, ◌≡◌, List, ◌++◌, length, take, drop, map, None, Result}
 use Rattle.vub_event.specs.declared.error.HostError.{HostError}
 use Rattle.vub_event.specs.declared.ready.Ready.{Ready}
-use Rattle.vub_event.specs.HostTable.{HostTable, ready_members}
+use Rattle.vub_event.specs.HostTable.{HostTable, IsNextNumber, ready_members}
 use Rattle.vub_event.specs.HostCalls.{Meets, Done, consume_refusal, consume_after, flags_refusal, create_event_after, create_list_after, list_refusal, member_for, AddCall, ModifyCall, DeleteCall}
 use Rattle.vub_host.specs.declared.epoll.EpollEvent.{EpollEvent}
 use Rattle.vub_host.specs.declared.epoll.ControlOperation.{ControlOperation}
@@ -11,11 +11,11 @@ use Rattle.vub_host.specs.declared.epoll.ControlOperation.TheVariants.{Add, Dele
 -- a new event object with these flags, whose number is read by `number`
 abbrev pub MakesEvent : {T : Type 0} → (T → ℕ) → ℕ → Result T HostError → HostTable → HostTable → Type 0
 MakesEvent number flags result old =
-    Meets (flags_refusal flags) (λ made. number made ≡ length old.objects) (create_event_after old flags) result old
+    Meets (flags_refusal flags) (λ made. IsNextNumber old.objects (number made)) (create_event_after old flags) result old
 
 -- a new interest list
 abbrev pub MakesList : {T : Type 0} → (T → ℕ) → Result T HostError → HostTable → HostTable → Type 0
-MakesList number result old = Meets None (λ made. number made ≡ length old.lists) (create_list_after old) result old
+MakesList number result old = Meets None (λ made. IsNextNumber old.lists (number made)) (create_list_after old) result old
 
 -- the event that reports a ready member
 abbrev pub event_of : Ready → EpollEvent

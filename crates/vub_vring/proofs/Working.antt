@@ -31,7 +31,7 @@ use Rattle.vub_vring.proofs.Settling.{told-map}
 -- The calls of the host
 
 list-made : {V : Type 0} (s : HostSaid) (old new : Held V) → HostCall host.CreateList s old new → MakesList (number_of s) old new
-list-made (said.Number n) old new m = (m.0.1, m.1 ∙ ap (λ t. record old { table = t }) m.0.2)
+list-made (said.Number n) old new m = (m.0.1.0, m.1 ∙ ap (λ t. record old { table = t }) m.0.2)
 list-made said.Done old new m = absurd m.0
 list-made (said.Count n) old new m = absurd m.0
 list-made (said.Member b) old new m = absurd m.0
@@ -45,7 +45,7 @@ none-due : {A : Type 0} (x : A) → None ≡ Some x → ⊥
 none-due x h = cc
 
 bell-made : {V : Type 0} (s : HostSaid) (old new : Held V) → IsSaid s → HostCall (host.CreateEvent 2048) s old new → MakesBell (number_of s) old new
-bell-made (said.Number n) old new is m = (m.0.1, m.1 ∙ ap (λ t. record old { table = t }) m.0.2)
+bell-made (said.Number n) old new is m = (m.0.1.0, m.1 ∙ ap (λ t. record old { table = t }) m.0.2)
 bell-made said.Done old new is m = absurd m.0
 bell-made (said.Count n) old new is m = absurd m.0
 bell-made (said.Member b) old new is m = absurd m.0
