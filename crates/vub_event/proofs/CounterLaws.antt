@@ -1,32 +1,42 @@
--- A read of a counter that is no semaphore gives what was written since the last read.
-use Rattle.std.proofs.Common.{ℕ, ◌+◌, ◌≡◌, List, [], ◌∷◌, true, false, cond, is_some, ◌∙◌, refl, arith}
+-- A read of a counter gives what was written since the last read.
+use Rattle.std.proofs.Common.{ℕ, ◌+◌, ◌≡◌, ◌<◌, List, [], ◌∷◌, ◌++◌, Some, None, ◌∙◌, ap, refl, arith}
+use Rattle.std.proofs.lemmas.Bool.Decides.{nat_tests}
 use Rattle.vub_event.specs.declared.event.Event.{Event}
-use Rattle.vub_event.specs.Counter.{write_refusal, written, read_value}
+use Rattle.vub_event.specs.Counter.{written, read_refusal, read_value, after_read}
+use Rattle.vub_event.specs.HostTable.{HostTable, with_event}
 use Rattle.vub_event.specs.Laws.{after_write, accepted_value, after_writes, accepted_sum, ReadsSum}
 
-write-count : (event : Event) (value : ℕ) → (after_write event value).count ≡ event.count + accepted_value event value
-write-count event value =
-    elim (is_some (write_refusal event value)) as (λ b. (cond {A = Event} b event (written event value)).count ≡ event.count + cond b 0 value)
-    [ true ↦ omega arith | false ↦ refl ]
+pub written-zero : (event : Event) → written event 0 ≡ event
+written-zero event = ap (λ n. record event { count = n }) (omega arith)
 
-write-kind : (event : Event) (value : ℕ) → (after_write event value).semaphore ≡ event.semaphore
-write-kind event value =
-    elim (is_some (write_refusal event value)) as (λ b. (cond {A = Event} b event (written event value)).semaphore ≡ event.semaphore)
-    [ true ↦ refl | false ↦ refl ]
+written-twice : (event : Event) (a b : ℕ) → written (written event a) b ≡ written event (a + b)
+written-twice event a b = ap (λ n. record event { count = n }) (omega arith)
 
-writes-count : (event : Event) (values : List ℕ) → (after_writes event values).count ≡ event.count + accepted_sum event values
-writes-count event [] = omega arith
-writes-count event (value ∷ values) =
-    omega (arith, writes-count (after_write event value) values, write-count event value)
+-- one write more adds what is accepted of it
+sum-more : (event : Event) (values : List ℕ) (value : ℕ)
+    → accepted_sum event (values ++ value ∷ []) ≡ accepted_sum event values + accepted_value (after_writes event values) value
+sum-more event [] value =
+    let same = ap (λ e. accepted_value e value) (written-zero event) in omega (arith, same)
+sum-more event (v ∷ values) value =
+    let next = sum-more (after_write event v) values value in
+    let same = ap (λ e. accepted_value e value) (written-twice event (accepted_value event v) (accepted_sum (after_write event v) values)) in
+    omega (arith, next, same)
 
-writes-kind : (event : Event) (values : List ℕ) → (after_writes event values).semaphore ≡ event.semaphore
-writes-kind event [] = refl
-writes-kind event (value ∷ values) = writes-kind (after_write event value) values ∙ write-kind event value
+pub writes-more : (event : Event) (values : List ℕ) (value : ℕ)
+    → after_writes (after_writes event values) (value ∷ []) ≡ after_writes event (values ++ value ∷ [])
+writes-more event values value =
+    written-twice event _ _ ∙ ap (λ n. written event n) (omega (arith, sum-more event values value))
 
-read-all : (event : Event) → event.semaphore ≡ false → read_value event ≡ event.count
-read-all event plain = rw plain refl
+above-zero : (sum : ℕ) (event : Event) → event.count ≡ sum → read_refusal event ≡ None → 0 < sum
+above-zero sum event is none = grind (arith, nat_tests)
 
-pub reads-sum : (event : Event) (values : List ℕ) → event.semaphore ≡ false → ReadsSum event values
-reads-sum event values plain =
-    let all = read-all (after_writes event values) (writes-kind event values ∙ plain) in
-    record { value = all ∙ writes-count event values; zero_left = omega (arith, all) }
+pub reads-sum : (object accepted read : ℕ) (event : Event) (old now : HostTable) → read_refusal (written event accepted) ≡ None
+    → read ≡ read_value (written event accepted) → now ≡ with_event old object (Some (after_read (written event accepted)))
+    → ReadsSum object (event.count + accepted) read event old now
+reads-sum object accepted read event old now none value left =
+    let P : ℕ → HostTable = λ n. with_event old object (Some record event { count = n }) in
+    record {
+      above = above-zero _ (written event accepted) refl none;
+      counter = λ plain. (value ∙ rw plain refl, left ∙ ap P (rw plain (omega arith)));
+      semaphore = λ is. (value ∙ rw is refl, left ∙ ap P (rw is refl));
+    }

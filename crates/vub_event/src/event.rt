@@ -10,7 +10,7 @@ use crate::ready::Ready;
 /// An event object: a counter after Linux's eventfd(2).
 #[derive(Clone, Copy, Debug, PartialEq, Eq)]
 pub struct Event {
-    /// The count, at most [`Event::GREATEST`].
+    /// The count. No write of a host takes it above [`Event::GREATEST`].
     pub count: u64,
     /// Whether a read takes 1 and not the whole count.
     pub semaphore: bool,

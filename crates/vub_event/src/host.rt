@@ -13,9 +13,10 @@ use std::alloc::Global;
 /// A host of event objects and interest lists: what an operating system gives by eventfd(2) and epoll(7), without
 /// waiting.
 ///
-/// A host may tell its table, and then each call answers and leaves what the definition of that call says. Told or
-/// not, a call answers none but its own refusals, Failed comes only where the count of faults rose, and a refused call
-/// changes nothing. A call that takes no allocator never answers want of memory.
+/// A host may tell its table, and then each call answers and leaves what the definition of that call says, and a
+/// refused call changes nothing: what is said of the calls below is said of such a host. Told or not, a call answers
+/// none but its own refusals and Failed, and Failed comes only where the count of faults rose, or stands at its end. A
+/// call that takes no allocator never answers want of memory.
 pub trait Host: Drop {
     // the table, where the host tells it
     ghost held: { Self → Option HostTable };
@@ -26,7 +27,7 @@ pub trait Host: Drop {
     // the host has no call that is to fail
     ghost never_fails: { Self → Type 0 };
 
-    /// How many calls have failed. The count never falls.
+    /// How many calls have failed: the count stands still at 2^64 - 1. No call lets it fall.
     fn faults(&self) -> u64
         ensures { result ≡ fault_count self.now };
 
@@ -119,8 +120,8 @@ pub trait Host: Drop {
         ensures refusals { RefusesBy result (HostError.Failed ∷ HostError.ENOENT ∷ HostError.EBADF ∷ []) }
         ensures table { Told (held self.old) (held self.new) (UnlistenCall list object above result) };
 
-    /// Reads the counter of this object to zero where it is a member of the list with this token, and says whether it
-    /// is.
+    /// Reads the counter of this object once where it is a member of the list with this token, and says whether it is.
+    /// The read leaves 0, or of a semaphore one less, and a count of 0 as it is.
     ///
     /// # Errors
     /// EBADF for the list.

@@ -29,6 +29,7 @@ impl MemHost {
     pub fn new(alloc: Global) -> MemHost
         ensures table { result.table ≡ empty_table }
         ensures calls { result.plan.calls.items ≡ [] }
+        ensures made { result.plan.made ≡ 0 }
         ensures faults { result.plan.faults ≡ 0 }
     {
         MemHost {
