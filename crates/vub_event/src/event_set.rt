@@ -53,20 +53,6 @@ impl EventSet {
     /// The bits that a host refuses: exclusive, wake-up, one-shot and edge-triggered interest.
     const UPPER: u32 = 0xf000_0000;
 
-    /// The set with these bits.
-    pub fn from_raw(bits: u32) -> EventSet
-        ensures { result.0 ≡ bits }
-    {
-        EventSet(bits)
-    }
-
-    /// The bits of the set.
-    pub fn raw(self) -> u32
-        ensures { result ≡ self.0 }
-    {
-        self.0
-    }
-
     /// Whether all of these bits are in the set.
     pub fn has(self, bits: u32) -> bool
         ensures { result ≡ has_bits self.0 bits }

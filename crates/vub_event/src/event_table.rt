@@ -265,7 +265,7 @@ impl EventTable {
         if self.member(list, object).is_some() || self.is_claimed(object) {
             return Err(HostError::EEXIST);
         }
-        let set = EventSet::from_raw(1);
+        let set = EventSet::IN;
         let _added = self.lists[list as usize].add(Member { object, set, token })?;
         Ok(())
     }

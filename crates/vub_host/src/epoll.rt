@@ -6,6 +6,7 @@ ghost use Rattle.vub_event.specs.Errors.{RefusesBy};
 ghost use Rattle.vub_event.specs.Faults.{CountsFaults};
 ghost use Rattle.vub_host.specs.Calls.{MakesList, ControlCall, WaitCall, event_of};
 
+use bitflags::Flags;
 use std::alloc::Global;
 use std::fmt::{Debug, Formatter, Write};
 use vub_event::{EventSet, Host, HostError, Ready};
@@ -43,7 +44,7 @@ impl EpollEvent {
         ensures { result ≡ record { events = events.0; raw = raw } }
     {
         EpollEvent {
-            events: events.raw(),
+            events: events.bits(),
             raw,
         }
     }
@@ -67,7 +68,7 @@ impl EpollEvent {
         ensures { result ≡ (if bit_or self.now.events 0xf000201f == 0xf000201f then Some record { 0 = self.now.events } else None) }
     {
         if self.events | EpollEvent::KNOWN == EpollEvent::KNOWN {
-            Some(EventSet::from_raw(self.events))
+            Some(EventSet::from_bits_retain(self.events))
         } else {
             None
         }
@@ -125,7 +126,7 @@ impl Epoll {
         ensures refusals { RefusesBy result (HostError.Failed ∷ HostError.EINVAL ∷ HostError.EEXIST ∷ HostError.ENOENT ∷ HostError.EBADF ∷ HostError.OutOfMemory ∷ []) }
         ensures table { Told (H.held host.old) (H.held host.new) (ControlCall operation self.now.list object event result) }
     {
-        let set = EventSet::from_raw(event.events);
+        let set = EventSet::from_bits_retain(event.events);
         match operation {
             ControlOperation::Add => host.add(alloc, self.list, object, set, event.raw),
             ControlOperation::Delete => host.delete(self.list, object),

@@ -11,6 +11,7 @@ ghost use mathlib.Core.Option.{none};
 
 use crate::poll_events::{EpollEvents, PollEvents};
 use crate::poll_token::PollToken;
+use bitflags::Flags;
 use log::{Log, warn};
 use std::alloc::Global;
 use std::marker::PhantomData;
@@ -113,7 +114,7 @@ impl<T: PollToken> EpollContext<T> {
         ensures refusals { RefusesBy result (HostError.Failed ∷ HostError.EINVAL ∷ HostError.EEXIST ∷ HostError.EBADF ∷ HostError.OutOfMemory ∷ []) }
         ensures table { Told (H.held host.old) (H.held host.new) (AddCall self.now.list (member_for object (record { 0 = 1 }) (T.raw_of token)) result) }
     {
-        let set = EventSet::from_raw(1);
+        let set = EventSet::IN;
         host.add(alloc, self.list, object, set, token.as_raw_token())
     }
 
@@ -135,7 +136,7 @@ impl<T: PollToken> EpollContext<T> {
         ensures refusals { RefusesBy result (HostError.Failed ∷ HostError.EINVAL ∷ HostError.EEXIST ∷ HostError.EBADF ∷ HostError.OutOfMemory ∷ []) }
         ensures table { Told (H.held host.old) (H.held host.new) (AddCall self.now.list (member_for object (record { 0 = events.0 }) (T.raw_of token)) result) }
     {
-        let set = EventSet::from_raw(events.get_raw());
+        let set = EventSet::from_bits_retain(events.get_raw());
         host.add(alloc, self.list, object, set, token.as_raw_token())
     }
 
@@ -156,7 +157,7 @@ impl<T: PollToken> EpollContext<T> {
         ensures refusals { RefusesBy result (HostError.Failed ∷ HostError.EINVAL ∷ HostError.ENOENT ∷ HostError.EBADF ∷ []) }
         ensures table { Told (H.held host.old) (H.held host.new) (ModifyCall self.now.list (member_for object (record { 0 = events.0 }) (T.raw_of token)) result) }
     {
-        let set = EventSet::from_raw(events.get_raw());
+        let set = EventSet::from_bits_retain(events.get_raw());
         host.modify(self.list, object, set, token.as_raw_token())
     }
 
