@@ -1,3 +1,4 @@
+use crate::laws::{add_then_delete, add_twice, write_then_read, writes_then_read};
 use crate::{EventSet, Host, HostError, MemHost};
 use bitflags::Flags;
 use std::alloc::Global;
@@ -49,6 +50,47 @@ fn list_keeps_one_member_for_each_object(rt: HostRuntime) -> Result<(), Fail> {
         host.add(alloc, list, object, edge, 7),
         Err(HostError::EINVAL)
     );
+    Ok(())
+}
+
+#[test]
+fn laws_make_their_calls(rt: HostRuntime) -> Result<(), Fail> {
+    let alloc = rt.alloc();
+    let mut host = MemHost::new(alloc);
+    let list = host.create_list(alloc)?;
+    let object = host.create_event(alloc, 0)?;
+    add_then_delete(&mut host, alloc, list, object, EventSet::IN, 7)?;
+    assert_eq!(rt; host.members(list).len(), 0);
+    let second = add_twice(&mut host, alloc, list, object, EventSet::IN, 7)?;
+    assert_eq!(rt; second, Err(HostError::EEXIST));
+    assert_eq!(rt; host.members(list).len(), 1);
+    assert_eq!(rt; write_then_read(&mut host, object, 5)?, 5);
+    let values = [3, u64::MAX, 0, u64::MAX - 3, 4];
+    assert_eq!(rt; writes_then_read(&mut host, object, &values)?, 7);
+    assert_eq!(rt;
+        write_then_read(&mut host, object, 0),
+        Err(HostError::WouldBlock)
+    );
+    let semaphore = host.create_event(alloc, 1)?;
+    assert_eq!(rt; writes_then_read(&mut host, semaphore, &[2, 2])?, 1);
+    assert_eq!(rt; host.consume(semaphore)?, 1);
+    assert_eq!(rt; writes_then_read(&mut host, 9, &[]), Err(HostError::EBADF));
+    Ok(())
+}
+
+#[test]
+fn laws_leave_what_was_done_before_a_fault(rt: HostRuntime) -> Result<(), Fail> {
+    let alloc = rt.alloc();
+    let fails = Vec::from_slice(alloc, &[3, 6])?;
+    let mut host = MemHost::failing(alloc, fails)?;
+    let list = host.create_list(alloc)?;
+    let object = host.create_event(alloc, 0)?;
+    let deleted = add_then_delete(&mut host, alloc, list, object, EventSet::IN, 7);
+    assert_eq!(rt; deleted, Err(HostError::Failed));
+    assert_eq!(rt; host.members(list).len(), 1);
+    let read = writes_then_read(&mut host, object, &[1, 2, 4]);
+    assert_eq!(rt; read, Err(HostError::Failed));
+    assert_eq!(rt; host.consume(object)?, 3);
     Ok(())
 }
 
