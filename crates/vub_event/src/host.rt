@@ -21,13 +21,13 @@ pub trait Host: Drop {
     // the table, where the host tells it
     ghost held: { Self → Option HostTable };
 
-    // how many calls have failed
+    // the count of faults
     ghost fault_count: { Self → ℕ };
 
     // the host has no call that is to fail
     ghost never_fails: { Self → Type 0 };
 
-    /// How many calls have failed: the count stands still at 2^64 - 1. No call lets it fall.
+    /// The count of the host's faults, which no call lets fall. It stands still once it is 2^64 - 1.
     fn faults(&self) -> u64
         ensures { result ≡ fault_count self.now };
 

@@ -1,4 +1,4 @@
-ghost use Rattle.std.specs.Prelude.{◌≡◌, ℕ, [], ◌∷◌, Some, IfOk, slice_get};
+ghost use Rattle.std.specs.Prelude.{◌≡◌, ℕ, [], ◌∷◌, Some, IfOk, IsOk, slice_get};
 ghost use Rattle.vub_base.specs.Told.{Told};
 ghost use Rattle.vub_event.specs.Errors.{RefusesBy};
 ghost use Rattle.vub_event.specs.Faults.{CountsFaults};
@@ -39,8 +39,10 @@ impl MemHost {
     }
 
     /// A host that fails the calls with these numbers, counted from 0 over the calls that answer a Result. A call that
-    /// is to fail answers Failed before any other test. The list is kept as it is.
+    /// is to fail answers Failed before any other test. The list is kept as it is, so this takes no memory and is never
+    /// refused.
     pub fn failing(alloc: Global, calls: Vec<u64>) -> Result<MemHost, OutOfMemory>
+        ensures ok { IsOk result }
         ensures table { IfOk result (λ h. h.table ≡ empty_table) }
         ensures calls { IfOk result (λ h. h.plan.calls.items ≡ calls.items) }
         ensures made { IfOk result (λ h. h.plan.made ≡ 0) }
