@@ -8,7 +8,7 @@ use Rattle.vub_mem.specs.Memory.{Guest}
 use Rattle.vub_mem.specs.Place.{holds, region_of, covers, content_of, byte_at, byte_in, bytes_at}
 use Rattle.vub_mem.specs.Sound.{IsApart, IsBacked}
 use Rattle.vub_mem.specs.Found.{IsFound}
-use Rattle.vub_mem.specs.PlaceAt.{RunsOn, place_at, place_in}
+use Rattle.vub_mem.specs.PlaceAt.{RunsOn, place_in}
 use Rattle.vub_mem.proofs.Ranges.{find_all, covers_at, length-bytes_at, get_or-bytes_at, bytes_at_more, bytes_at_none}
 
 not_held : (q : Region) (b : ℕ) → q.start + q.len ≤ b → holds q b ≡ false

@@ -130,11 +130,7 @@ length-with_byte (c ∷ cs) o i b q =
           ]
     ]
 
-pub backed-with_byte : (cs : List Content) (o i b : ℕ) (rs : List Region) → AllByRecursion (λ r. IsBacked cs r) rs → AllByRecursion (λ r. IsBacked (with_byte cs o i b) r) rs
-backed-with_byte cs o i b [] h = tt
-backed-with_byte cs o i b (r ∷ rs) h = (omega (arith, h.0, length-with_byte cs o i b r.object), backed-with_byte cs o i b rs h.1)
-
-longer : (cs : List Content) (c : Content) (q : ℕ) → length (content_of cs q) ≤ length (content_of (cs ++ c ∷ []) q)
+pub longer : (cs : List Content) (c : Content) (q : ℕ) → length (content_of cs q) ≤ length (content_of (cs ++ c ∷ []) q)
 longer [] c q = omega arith
 longer (x ∷ cs) c q =
     elim (cases_Bool (eqb x.object q)) [

@@ -1,7 +1,6 @@
 -- Every page that a range meets in a region with a log is marked, and a log that tells its bits shows it.
-use Rattle.std.proofs.Common.{◌≡◌, ℕ, zero, suc, ◌+◌, ◌-◌, ◌*◌, ◌/◌, ◌%◌, ◌<◌, ◌≤◌, ◌⊎◌, inl, inr, Bool, true, false, ◌&&◌, List, [], ◌∷◌, ◌++◌, Option, Some, None, refl, sym, ap, subst, ◌∙◌, arith, max, eqb, ltb, leb, length, flat_map, MatchBool}
+use Rattle.std.proofs.Common.{◌≡◌, ℕ, zero, suc, ◌+◌, ◌-◌, ◌*◌, ◌/◌, ◌%◌, ◌<◌, ◌≤◌, ◌⊎◌, inl, inr, Bool, true, List, [], ◌∷◌, ◌++◌, Option, Some, refl, sym, ap, subst, ◌∙◌, arith, max, eqb, ltb, leb, flat_map, MatchBool}
 use Rattle.std.specs.List.{range_with_len, AllByRecursion}
-use Rattle.std.specs.Option.{ForSome}
 use Rattle.std.proofs.lemmas.Bool.{cases_Bool, cases_lt, and_parts, and_from, cond-false, eqb-true, le-leb, lt-ltb, leb-true, ltb-true}
 use Rattle.std.proofs.lemmas.List.Concat.{flat_map-cons}
 use Rattle.vub_mem.specs.declared.dirty.Stored.{Stored}
@@ -9,8 +8,8 @@ use Rattle.vub_mem.specs.declared.region.Region.{Region}
 use Rattle.vub_mem.specs.declared.region.AtomicBitmapMmap.{AtomicBitmapMmap}
 use Rattle.vub_mem.specs.Laws.{IsIn, IsTracked, IsShown}
 use Rattle.vub_mem.specs.Logs.{ChangesOne, HoldsOf}
-use Rattle.vub_mem.specs.Marks.{Mark, MarksOne, MarksAll, IsMarked, page_marks, mark_at, mark_of, mark_in, marks_of, page_count}
-use Rattle.vub_mem.specs.Place.{holds, region_of}
+use Rattle.vub_mem.specs.Marks.{Mark, MarksAll, page_marks, mark_at, mark_of, mark_in, marks_of, page_count}
+use Rattle.vub_mem.specs.Place.{region_of}
 use Rattle.vub_mem.specs.Sound.{IsApart}
 use Rattle.vub_mem.specs.Track.{is_aligned}
 use Rattle.vub_mem.proofs.Ranges.{find_all, find_holds}

@@ -3,6 +3,7 @@ use Rattle.std.specs.Prelude.{◌≡◌, ℕ, ◌+◌, ◌-◌, ◌*◌, ◌/◌
 use Rattle.std.specs.List.{range_with_len}
 use Rattle.vub_mem.specs.declared.region.Region.{Region}
 use Rattle.vub_mem.specs.declared.region.AtomicBitmapMmap.{AtomicBitmapMmap}
+use Rattle.vub_mem.specs.declared.bitmap_region.BitmapMmapRegion.{BitmapMmapRegion}
 use Rattle.vub_mem.specs.declared.errors.LogError.{LogError}
 use Rattle.vub_mem.specs.declared.errors.LogError.TheVariants.{NotPageAligned, TooSmall}
 use Rattle.vub_mem.specs.Marks.{page_count}
@@ -54,3 +55,8 @@ inner_bits (Some m) limit place n = bits_met m limit place n
 abbrev pub inner_bit : Option AtomicBitmapMmap → ℕ → ℕ → Option ℕ
 inner_bit None limit place = None
 inner_bit (Some m) limit place = bit_at_place m limit place
+
+-- the bitmap whose place 0 is place `offset` of this one; where that passes 64 bits there is no such place, and no bit
+abbrev pub sliced : BitmapMmapRegion → ℕ → BitmapMmapRegion
+sliced b offset =
+    if nat_lt (b.base + offset) (2 ^ 64) then record b { base = b.base + offset } else record { inner = None; base = 2 ^ 64 - 1 }

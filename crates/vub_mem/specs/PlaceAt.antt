@@ -1,5 +1,5 @@
 -- Where a guest address lies, for one that keeps a list of the places written.
-use Rattle.std.specs.Prelude.{ℕ, ◌≡◌, ◌<◌, ◌+◌, ◌-◌, List, Option, Some, None, option_map}
+use Rattle.std.specs.Prelude.{ℕ, ◌≡◌, ◌<◌, ◌+◌, ◌-◌, List, Option, Some, option_map}
 use Rattle.vub_mem.specs.declared.place.Place.{Place}
 use Rattle.vub_mem.specs.declared.region.Region.{Region}
 use Rattle.vub_mem.specs.Place.{region_of}

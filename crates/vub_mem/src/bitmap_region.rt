@@ -1,5 +1,5 @@
-ghost use Rattle.std.specs.Prelude.{◌+◌, true, Some};
-ghost use Rattle.vub_mem.specs.Bits.{inner_bits, inner_bit, bitmap_answer};
+ghost use Rattle.std.specs.Prelude.{◌≡◌, ◌+◌, ℕ, true, Some};
+ghost use Rattle.vub_mem.specs.Bits.{inner_bits, inner_bit, bitmap_answer, sliced};
 
 use crate::bitmap::{Bitmap, BitmapReplace, MemRegionBitmap};
 use crate::dirty::DirtyLog;
@@ -54,16 +54,18 @@ impl Bitmap for BitmapMmapRegion {
         }
     }
 
-    fn slice_at(&self, offset: u64) -> Self {
+    /// Past place 2^64 - 1 there is no place: the slice has no bit then, and its base is 2^64 - 1.
+    fn slice_at(&self, offset: u64) -> Self
+        ensures value { result ≡ sliced self.now offset }
+        ensures bits { (limit place n : ℕ) → inner_bits result.inner limit (result.base + place) n ≡ inner_bits self.now.inner limit (self.now.base + (offset + place)) n }
+        ensures bit { (limit place : ℕ) → inner_bit result.inner limit (result.base + place) ≡ inner_bit self.now.inner limit (self.now.base + (offset + place)) }
+    {
         match self.base.checked_add(offset) {
             None => BitmapMmapRegion {
                 inner: None,
-                base: 0,
+                base: u64::MAX,
             },
-            Some(base) => BitmapMmapRegion {
-                inner: self.inner,
-                base,
-            },
+            Some(base) => BitmapMmapRegion { base, ..*self },
         }
     }
 }

@@ -59,20 +59,20 @@ pub trait HarvestLog: DirtyLog {
 /// A numbered log.
 #[derive(Drop)]
 pub struct Stored<L: DirtyLog> {
-    /// The number, which no other log of the same memory has.
+    /// The number by which regions name it: of two logs with one number the first is meant.
     pub object: u32,
     /// The log.
     pub log: L,
 }
 
-/// The log of length 0, which has no page to mark. What a caller may ask of a log with pages, it does for any number and
-/// changes nothing.
+/// The log of length 0, which has no page to mark. A mark, a load and a harvest of any number change nothing, and no bit
+/// is set.
 impl DirtyLog for () {
     ghost byte_len = { λ _. 0 };
 
     ghost marks = { λ a _ b. a ≡ b };
 
-    ghost loads = { λ a _ _ b. a ≡ b };
+    ghost loads = { λ a _ bits b. (bits ≡ 0) × (a ≡ b) };
 
     fn len(&self) -> u64 {
         0
@@ -83,14 +83,15 @@ impl DirtyLog for () {
     {}
 
     fn load(&mut self, _byte: u64) -> u8
-        ensures { self.old ≡ self.new }
+        ensures bits { result ≡ 0 }
+        ensures same { self.old ≡ self.new }
     {
-        0
+        0u8
     }
 }
 
 impl HarvestLog for () {
-    ghost harvests = { λ a _ _ b. a ≡ b };
+    ghost harvests = { λ a _ bits b. (bits ≡ 0) × (a ≡ b) };
 
     ghost spent = { λ _ _. ⊥ };
 

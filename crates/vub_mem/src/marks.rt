@@ -30,20 +30,6 @@ pub(crate) fn log_place<L: DirtyLog>(logs: &[Stored<L>], object: u32) -> Option<
     }
 }
 
-fn any_log<L: DirtyLog>(logs: &[Stored<L>], object: u32) -> bool
-    ensures { result ≡ list_any (λ s. s.object == object) logs.now }
-{
-    logs.iter().any(|s| s.object == object)
-}
-
-/// Whether a log has this number.
-pub(crate) fn is_log<L: DirtyLog>(logs: &[Stored<L>], object: u32) -> bool
-    ensures value { result ≡ list_any (λ s. s.object == object) logs.now }
-    ensures absent { result ≡ false → AllByRecursion (λ s. s.object ≢ object) logs.now }
-{
-    if any_log(logs, object) { true } else { false }
-}
-
 /// A byte of the log with this number, which has it.
 pub(crate) fn load_log<L: DirtyLog>(logs: &mut [Stored<L>], object: u32, byte: u64) -> u8
     requires { byte < log_len L.byte_len logs.old object }
@@ -158,13 +144,6 @@ fn count_pages(addr: u64, len: u64) -> u64
     }
 }
 
-/// The greater of the two.
-fn later(a: u64, b: u64) -> u64
-    ensures { result ≡ max a b }
-{
-    if a < b { b } else { a }
-}
-
 /// Marks each page that the range meets in a region with a log.
 pub(crate) fn mark_range<L: DirtyLog>(
     regions: &[Region],
@@ -180,6 +159,6 @@ pub(crate) fn mark_range<L: DirtyLog>(
 {
     let count = count_pages(addr, len);
     for i in 0..count {
-        mark_page(regions, logs, later(addr, 4096 * (addr / 4096 + i)));
+        mark_page(regions, logs, addr.max(4096 * (addr / 4096 + i)));
     }
 }

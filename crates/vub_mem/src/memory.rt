@@ -7,7 +7,7 @@ use crate::content::Content;
 use crate::dirty::{DirtyLog, HarvestLog, Stored};
 use crate::errors::{LogError, MemError};
 use crate::harvests::harvest_log;
-use crate::marks::{is_log, load_log, log_bytes, mark_range, test_log};
+use crate::marks::{load_log, log_bytes, mark_range, test_log};
 use crate::place::Place;
 use crate::places::{
     content_bytes, covers_range, is_content, locate_range, place_in, read_range, store_content,
@@ -152,14 +152,6 @@ impl<L: DirtyLog> GuestMemory<L> {
         is_content(&self.contents, object)
     }
 
-    /// Whether a log has this number.
-    pub fn has_log(&self, object: u32) -> bool
-        ensures value { result ≡ list_any (λ s. s.object == object) self.now.logs }
-        ensures absent { result ≡ false → AllByRecursion (λ s. s.object ≢ object) self.now.logs }
-    {
-        is_log(&self.logs, object)
-    }
-
     /// How many bytes the log with this number has, and 0 where there is none.
     pub fn log_len(&self, object: u32) -> u64
         ensures value { result ≡ log_len L.byte_len self.now.logs object }
@@ -173,6 +165,7 @@ impl<L: DirtyLog> GuestMemory<L> {
         requires { byte < log_len L.byte_len self.old.logs object }
         ensures loaded { ChangesOne (λ old new. L.loads old byte result new) self.old.logs object self.new.logs }
         ensures guest { self.new.guest ≡ self.old.guest }
+        ensures keeps { (o : ℕ) → log_len L.byte_len self.new.logs o ≡ log_len L.byte_len self.old.logs o }
     {
         load_log(&mut self.logs, object, byte)
     }
@@ -399,6 +392,7 @@ impl<L: HarvestLog> GuestMemory<L> {
         ensures only { OnErr result (result ≡ Err LogError.GenerationsSpent) }
         ensures err { OnErr result (self.new ≡ self.old) }
         ensures guest { self.new.guest ≡ self.old.guest }
+        ensures keeps { (o : ℕ) → log_len L.byte_len self.new.logs o ≡ log_len L.byte_len self.old.logs o }
     {
         harvest_log(&mut self.logs, object, word)
     }

@@ -245,7 +245,7 @@ pub(crate) fn write_range(regions: &[Region], contents: &mut [Content], addr: u6
         match region_at(regions, at) {
             None => rest = &[],
             Some(region) => {
-                let here = smaller(region.len - (at - region.start), rest.len() as u64);
+                let here = (region.len - (at - region.start)).min(rest.len() as u64);
                 let (chunk, after) = rest.split_at(here as usize);
                 let place = region.offset + (at - region.start);
                 store_content(contents, region.object, place, chunk);
@@ -289,15 +289,6 @@ pub(crate) fn u64_at(regions: &[Region], contents: &[Content], addr: u64) -> u64
     u64::from_le_bytes(bytes)
 }
 
-/// The smaller of the two.
-fn smaller(a: u64, b: u64) -> u64
-    ensures first { result ≤ a }
-    ensures second { result ≤ b }
-    ensures some { 0 < a → 0 < b → 0 < result }
-{
-    if a < b { a } else { b }
-}
-
 /// The bytes from an address on that lie in its region, at most `left`.
 fn chunk_at<'a>(regions: &[Region], contents: &'a [Content], at: u64, left: u64) -> &'a [u8]
     requires sound { IsSound (record { regions = regions.now; contents = contents.now }) }
@@ -310,7 +301,7 @@ fn chunk_at<'a>(regions: &[Region], contents: &'a [Content], at: u64, left: u64)
     match region_at(regions, at) {
         None => &[],
         Some(region) => {
-            let here = smaller(region.len - (at - region.start), left);
+            let here = (region.len - (at - region.start)).min(left);
             region_part(regions, contents, region, at, here)
         }
     }

@@ -7,7 +7,7 @@ pub mark_page-requires-clause-logged : goal.mark_page-requires-clause-logged
 mark_page-requires-clause-logged g c = logged_marks g.L.DirtyLog.byte_len g.L.DirtyLog.marks _ _ _ _ c.loop-i.invariant c.requires.logged
 
 pub loop-i-preserved : goal.loop-i-preserved
-loop-i-preserved g c = marks_more (page_marks g.L.DirtyLog.byte_len g.L.DirtyLog.marks) _ _ _ _ _ _ _ c.loop-i.invariant c.later.ensures c.mark_page.ensures
+loop-i-preserved g c = marks_more (page_marks g.L.DirtyLog.byte_len g.L.DirtyLog.marks) _ _ _ _ _ _ _ c.loop-i.invariant c.max.ensures c.mark_page.ensures
 
 pub returns-clause-marked : goal.returns-clause-marked
 returns-clause-marked g c =

@@ -1,5 +1,4 @@
-use Rattle.std.proofs.Common.{rules, sym, ◌≡◌, ◌≢◌, ◌∙◌, false, eqb}
-use Rattle.std.specs.List.{list_any, AllByRecursion}
+use Rattle.std.proofs.Common.{sym, ◌≢◌, ◌∙◌, eqb}
 use Rattle.std.proofs.lemmas.Bool.{eqb-false}
 use Rattle.vub_mem.specs.declared.content.Content.{Content}
 use Rattle.vub_mem.proofs.places.is_content.Goals as goal
