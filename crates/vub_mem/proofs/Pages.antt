@@ -6,11 +6,11 @@ use Rattle.std.proofs.lemmas.List.Concat.{flat_map-cons}
 use Rattle.vub_mem.specs.declared.dirty.Stored.{Stored}
 use Rattle.vub_mem.specs.declared.region.Region.{Region}
 use Rattle.vub_mem.specs.declared.region.AtomicBitmapMmap.{AtomicBitmapMmap}
-use Rattle.vub_mem.specs.Laws.{IsIn, IsTracked, IsShown}
+use Rattle.vub_mem.specs.Laws.{IsIn, IsShown}
 use Rattle.vub_mem.specs.Logs.{ChangesOne, HoldsOf}
 use Rattle.vub_mem.specs.Marks.{Mark, MarksAll, page_marks, mark_at, mark_of, mark_in, marks_of, page_count}
 use Rattle.vub_mem.specs.Place.{region_of}
-use Rattle.vub_mem.specs.Sound.{IsApart}
+use Rattle.vub_mem.specs.Sound.{IsApart, IsBounded}
 use Rattle.vub_mem.specs.Track.{is_aligned}
 use Rattle.vub_mem.proofs.Ranges.{find_all, find_holds}
 use Rattle.vub_mem.proofs.Chunks.{same_region}
@@ -59,10 +59,11 @@ count_more a (suc n) k h =
 mark_same : (o : Option Region) (r : Region) (l : AtomicBitmapMmap) (x : ℕ) → o ≡ Some r → r.log ≡ Some l → mark_of o x ≡ record { object = l.object; page = 8 * l.offset + x / 4096 } ∷ []
 mark_same o r l x e f = ap (λ q. mark_of q x) e ∙ ap (λ q. mark_in q x) f
 
-pub met_page : (rs : List Region) → IsApart rs → AllByRecursion IsTracked rs → (a n k : ℕ) (r : Region) (l : AtomicBitmapMmap) → k < n → region_of rs (a + k) ≡ Some r → r.log ≡ Some l → IsIn (record { object = l.object; page = 8 * l.offset + (a + k) / 4096 }) (marks_of rs a n)
+pub met_page : (rs : List Region) → IsApart rs → AllByRecursion IsBounded rs → (a n k : ℕ) (r : Region) (l : AtomicBitmapMmap) → k < n → region_of rs (a + k) ≡ Some r → r.log ≡ Some l → IsIn (record { object = l.object; page = 8 * l.offset + (a + k) / 4096 }) (marks_of rs a n)
 unfolding marks_of mark_at
-met_page rs apart tracked a n k r l h is has =
-    let aligned : is_aligned r ≡ true = find_all IsTracked rs (a + k) r tracked is l has in
+met_page rs apart bounded a n k r l h is has =
+    let found : IsBounded r = find_all IsBounded rs (a + k) r bounded is in
+    let aligned : is_aligned r ≡ true = found.aligned l has in
     let page : ℕ = (a + k) / 4096 in
     let first : max a (4096 * page) / 4096 ≡ page = omega arith in
     let one : mark_of (region_of rs (max a (4096 * page))) (max a (4096 * page)) ≡ record { object = l.object; page = 8 * l.offset + page } ∷ [] =

@@ -15,7 +15,7 @@ use Rattle.vub_mem.specs.declared.dirty.Stored.{Stored}
 use Rattle.vub_mem.specs.Faults.{or_else}
 use Rattle.vub_mem.specs.Logs.{log_len}
 use Rattle.vub_mem.specs.Sound.{IsLogged, IsSoundMemory, last_bit}
-use Rattle.vub_mem.specs.Track.{last_page, bitmap_of, with_log}
+use Rattle.vub_mem.specs.Track.{IsTrackable, last_page, bitmap_of, with_log}
 use Rattle.vub_mem.specs.Table.{pair_fault, pairs_from, unlogged, meets, place_of, is_region, remove_answer, without, IsTested}
 use Rattle.vub_mem.proofs.Ranges.{put_back}
 use Rattle.vub_mem.proofs.Finds.{first_true, first_false, find_none, position_first, all_from, all_insert, all_remove}
@@ -169,24 +169,25 @@ pub unlogged_one : {L : Type 0} → (len : L → ℕ) (ss : List (Stored L)) (r 
 unlogged_one len ss r = λ l is. let h : None ≡ Some l = is in cc
 
 -- every region gets a log
-bounded_with : (o offset size have : ℕ) (r : Region) → IsBounded r → last_page r < 8 * size → offset + size ≤ have → have < 2 ^ 61 → IsBounded (with_log o offset r)
-bounded_with o offset size have r bounded below within small =
-    record { some = bounded.some; ends = bounded.ends; offset_ends = bounded.offset_ends; log_ends = λ l is. (let h : Some (bitmap_of r o offset) ≡ Some l = is in let same : bitmap_of r o offset ≡ l = cc in subst (λ b. last_bit r b < 2 ^ 64) same (omega arith)) }
+bounded_with : (o offset size have : ℕ) (r : Region) → IsBounded r → IsTrackable size r → offset + size ≤ have → have < 2 ^ 61 → IsBounded (with_log o offset r)
+bounded_with o offset size have r bounded trackable within small =
+    let below : last_page r < 8 * size = trackable.below in
+    record { aligned = λ l is. trackable.aligned; some = bounded.some; ends = bounded.ends; offset_ends = bounded.offset_ends; log_ends = λ l is. (let h : Some (bitmap_of r o offset) ≡ Some l = is in let same : bitmap_of r o offset ≡ l = cc in subst (λ b. last_bit r b < 2 ^ 64) same (omega arith)) }
 
-logged_with : {L : Type 0} → (len : L → ℕ) (ss : List (Stored L)) (o offset size : ℕ) (r : Region) → last_page r < 8 * size → offset + size ≤ log_len len ss o → IsLogged len ss (with_log o offset r)
-logged_with len ss o offset size r below within = λ l is. (let h : Some (bitmap_of r o offset) ≡ Some l = is in let same : bitmap_of r o offset ≡ l = cc in subst (λ b. last_bit r b < 8 * log_len len ss b.object) same (omega arith))
+logged_with : {L : Type 0} → (len : L → ℕ) (ss : List (Stored L)) (o offset size : ℕ) (r : Region) → IsTrackable size r → offset + size ≤ log_len len ss o → IsLogged len ss (with_log o offset r)
+logged_with len ss o offset size r trackable within = λ l is. (let below : last_page r < 8 * size = trackable.below in let h : Some (bitmap_of r o offset) ≡ Some l = is in let same : bitmap_of r o offset ≡ l = cc in subst (λ b. last_bit r b < 8 * log_len len ss b.object) same (omega arith))
 
-with_all : {L : Type 0} → (len : L → ℕ) (cs : List Content) (ss : List (Stored L)) (o offset size have : ℕ) (rs : List Region) → AllByRecursion IsBounded rs → AllByRecursion (λ r. IsBacked cs r) rs → AllByRecursion (λ r. last_page r < 8 * size) rs → have ≡ log_len len ss o → offset + size ≤ have → have < 2 ^ 61 →
+with_all : {L : Type 0} → (len : L → ℕ) (cs : List Content) (ss : List (Stored L)) (o offset size have : ℕ) (rs : List Region) → AllByRecursion IsBounded rs → AllByRecursion (λ r. IsBacked cs r) rs → AllByRecursion (λ r. IsTrackable size r) rs → have ≡ log_len len ss o → offset + size ≤ have → have < 2 ^ 61 →
     AllByRecursion IsBounded (map (λ r. with_log o offset r) rs) × AllByRecursion (λ r. IsBacked cs r) (map (λ r. with_log o offset r) rs) × AllByRecursion (λ r. IsLogged len ss r) (map (λ r. with_log o offset r) rs)
-with_all len cs ss o offset size have [] bounded backed below is within small = (tt, tt, tt)
-with_all len cs ss o offset size have (r ∷ rs) bounded backed below is within small =
-    let rest = with_all len cs ss o offset size have rs bounded.1 backed.1 below.1 is within small in
-    ((bounded_with o offset size have r bounded.0 below.0 within small, rest.0), (backed.0, rest.1), (logged_with len ss o offset size r below.0 (omega arith), rest.2))
+with_all len cs ss o offset size have [] bounded backed trackable is within small = (tt, tt, tt)
+with_all len cs ss o offset size have (r ∷ rs) bounded backed trackable is within small =
+    let rest = with_all len cs ss o offset size have rs bounded.1 backed.1 trackable.1 is within small in
+    ((bounded_with o offset size have r bounded.0 trackable.0 within small, rest.0), (backed.0, rest.1), (logged_with len ss o offset size r trackable.0 (omega arith), rest.2))
 
-pub sound_with : {L : Type 0} → (len : L → ℕ) (rs : List Region) (cs : List Content) (ss : List (Stored L)) (o offset size : ℕ) → IsSoundMemory len (record { guest = record { regions = rs; contents = cs }; logs = ss }) → AllByRecursion (λ r. last_page r < 8 * size) rs → offset + size ≤ log_len len ss o → log_len len ss o < 2 ^ 61 →
+pub sound_with : {L : Type 0} → (len : L → ℕ) (rs : List Region) (cs : List Content) (ss : List (Stored L)) (o offset size : ℕ) → IsSoundMemory len (record { guest = record { regions = rs; contents = cs }; logs = ss }) → AllByRecursion (λ r. IsTrackable size r) rs → offset + size ≤ log_len len ss o → log_len len ss o < 2 ^ 61 →
     IsSoundMemory len (record { guest = record { regions = map (λ r. with_log o offset r) rs; contents = cs }; logs = ss })
-sound_with len rs cs ss o offset size sound below within small =
-    let all = with_all len cs ss o offset size (log_len len ss o) rs sound.guest.bounded sound.guest.backed below refl within small in
+sound_with len rs cs ss o offset size sound trackable within small =
+    let all = with_all len cs ss o offset size (log_len len ss o) rs sound.guest.bounded sound.guest.backed trackable refl within small in
     record {
       guest = record { bounded = all.0; backed = all.1; apart = apart_map (λ r. with_log o offset r) rs (λ r. (refl, refl)) sound.guest.apart };
       logged = all.2;
@@ -199,8 +200,8 @@ sound_cleared len rs new cs ds ss n e k same is sound =
       logged = subst (λ l. AllByRecursion (λ r. IsLogged len ss r) l) (sym is) (unlogged_all len ss rs);
     })
 
-pub sound_given : {L : Type 0} → (len : L → ℕ) (rs qs new : List Region) (cs : List Content) (ss ts : List (Stored L)) (o offset size n : ℕ) → length new ≡ length rs → n ≡ length rs → qs ≡ rs → ts ≡ ss → new ≡ map (λ r. with_log o offset r) qs → IsSoundMemory len (record { guest = record { regions = rs; contents = cs }; logs = ss }) → AllByRecursion (λ r. last_page r < 8 * size) rs → offset + size ≤ log_len len ts o → log_len len ts o < 2 ^ 61 →
+pub sound_given : {L : Type 0} → (len : L → ℕ) (rs qs new : List Region) (cs : List Content) (ss ts : List (Stored L)) (o offset size n : ℕ) → length new ≡ length rs → n ≡ length rs → qs ≡ rs → ts ≡ ss → new ≡ map (λ r. with_log o offset r) qs → IsSoundMemory len (record { guest = record { regions = rs; contents = cs }; logs = ss }) → AllByRecursion (λ r. IsTrackable size r) rs → offset + size ≤ log_len len ts o → log_len len ts o < 2 ^ 61 →
     IsSoundMemory len (record { guest = record { regions = take n (new ++ drop (length new) rs); contents = cs }; logs = ss })
-sound_given len rs qs new cs ss ts o offset size n e k qs_is ts_is is sound below within small =
+sound_given len rs qs new cs ss ts o offset size n e k qs_is ts_is is sound trackable within small =
     rw (put_back n new rs e k) (subst (λ l. IsSoundMemory len (record { guest = record { regions = l; contents = cs }; logs = ss })) (sym (is ∙ ap (λ l. map (λ r. with_log o offset r) l) qs_is))
-    (sound_with len rs cs ss o offset size sound below (let same : log_len len ts o ≡ log_len len ss o = ap (λ l. log_len len l o) ts_is in omega arith) (let same : log_len len ts o ≡ log_len len ss o = ap (λ l. log_len len l o) ts_is in omega arith)))
+    (sound_with len rs cs ss o offset size sound trackable (let same : log_len len ts o ≡ log_len len ss o = ap (λ l. log_len len l o) ts_is in omega arith) (let same : log_len len ts o ≡ log_len len ss o = ap (λ l. log_len len l o) ts_is in omega arith)))

@@ -1,7 +1,5 @@
 -- Laws of writes: what they leave alone, and which pages they mark.
 use Rattle.std.specs.Prelude.{◌≡◌, ℕ, ◌+◌, ◌-◌, ◌*◌, ◌/◌, ◌<◌, ◌⊎◌, Bool, true, List, [], ◌∷◌, length, Option, Some, None, slice_index}
-use Rattle.std.specs.List.{AllByRecursion}
-use Rattle.std.specs.Option.{ForSome}
 use Rattle.vub_mem.specs.declared.dirty.Stored.{Stored}
 use Rattle.vub_mem.specs.declared.region.AtomicBitmapMmap.{AtomicBitmapMmap}
 use Rattle.vub_mem.specs.declared.region.Region.{Region}
@@ -9,8 +7,6 @@ use Rattle.vub_mem.specs.Memory.{Guest}
 use Rattle.vub_mem.specs.Logs.{HoldsOf}
 use Rattle.vub_mem.specs.Marks.{Mark, MarksAll, page_marks, marks_of}
 use Rattle.vub_mem.specs.Place.{region_of, content_of, write_at}
-use Rattle.vub_mem.specs.Sound.{IsApart}
-use Rattle.vub_mem.specs.Track.{is_aligned}
 
 -- the address lies at this place of a content
 abbrev pub LiesIn : Option Region → ℕ → ℕ → ℕ → Type 0
@@ -41,13 +37,9 @@ abbrev pub IsIn : {X : Type 0} → X → List X → Type 0
 IsIn x [] = ⊥
 IsIn x (y ∷ ys) = (y ≡ x) ⊎ IsIn x ys
 
--- a region with a log begins and ends at a page, as each region does that gets one
-abbrev pub IsTracked : Region → Type 0
-IsTracked r = ForSome r.log (λ l. is_aligned r ≡ true)
-
 -- every page of 4096 guest bytes that a range meets in a region with a log is among the marks of the range
-abbrev pub MarksEachPage : Type 0
-MarksEachPage = (rs : List Region) → IsApart rs → AllByRecursion IsTracked rs → (a n k : ℕ) (r : Region) (l : AtomicBitmapMmap) → k < n → region_of rs (a + k) ≡ Some r → r.log ≡ Some l → IsIn (record { object = l.object; page = 8 * l.offset + (a + k) / 4096 }) (marks_of rs a n)
+abbrev pub MarksEachPage : List Region → Type 0
+MarksEachPage rs = (a n k : ℕ) (r : Region) (l : AtomicBitmapMmap) → k < n → region_of rs (a + k) ≡ Some r → r.log ≡ Some l → IsIn (record { object = l.object; page = 8 * l.offset + (a + k) / 4096 }) (marks_of rs a n)
 
 -- what a log shows of a page: a mark sets it, and no mark takes it away
 pub record IsShown {L : Type 0} (marks : L → ℕ → L → Type 0) (shows : L → ℕ → Bool) : Type 0 where

@@ -1,5 +1,5 @@
 -- What always holds of a guest memory.
-use Rattle.std.specs.Prelude.{ℕ, ◌+◌, ◌-◌, ◌*◌, ◌/◌, ◌^◌, ◌<◌, ◌≤◌, List, [], ◌∷◌, length}
+use Rattle.std.specs.Prelude.{◌≡◌, ℕ, ◌+◌, ◌-◌, ◌*◌, ◌/◌, ◌^◌, ◌<◌, ◌≤◌, true, List, [], ◌∷◌, length}
 use Rattle.std.specs.List.{AllByRecursion}
 use Rattle.std.specs.Option.{ForSome}
 use Rattle.vub_mem.specs.declared.content.Content.{Content}
@@ -9,17 +9,20 @@ use Rattle.vub_mem.specs.declared.region.AtomicBitmapMmap.{AtomicBitmapMmap}
 use Rattle.vub_mem.specs.Logs.{log_len}
 use Rattle.vub_mem.specs.Memory.{Guest, Memory}
 use Rattle.vub_mem.specs.Place.{content_of}
+use Rattle.vub_mem.specs.Track.{is_aligned}
 
 -- the bit of the last page of a region in its log
 abbrev pub last_bit : Region → AtomicBitmapMmap → ℕ
 last_bit r l = 8 * l.offset + (r.start + r.len - 1) / 4096
 
--- a region that is not empty and passes neither the last guest address nor 64 bits in its content
+-- a region that is not empty and passes neither the last guest address nor 64 bits in its content; one with a log begins
+-- and ends at a page, and the bit of its last page has 64 bits
 pub record IsBounded (r : Region) : Type 0 where
   pub some : 0 < r.len
   pub ends : r.start + r.len < 2 ^ 64
   pub offset_ends : r.offset + r.len < 2 ^ 64
   pub log_ends : ForSome r.log (λ l. last_bit r l < 2 ^ 64)
+  pub aligned : ForSome r.log (λ l. is_aligned r ≡ true)
 
 -- a region that lies in its content
 abbrev pub IsBacked : List Content → Region → Type 0

@@ -1,5 +1,5 @@
 -- The log of the regions of a table.
-use Rattle.std.specs.Prelude.{ℕ, ◌+◌, ◌-◌, ◌*◌, ◌/◌, ◌%◌, Bool, not, ◌&&◌, ◌==◌, nat_lt, nat_le, if◌then◌else◌, List, Option, Some, None, Result, Ok, Err}
+use Rattle.std.specs.Prelude.{◌≡◌, ℕ, ◌+◌, ◌-◌, ◌*◌, ◌/◌, ◌%◌, ◌<◌, Bool, true, not, ◌&&◌, ◌==◌, nat_lt, nat_le, if◌then◌else◌, List, Option, Some, None, Result, Ok, Err}
 use Rattle.vub_mem.specs.declared.dirty.Stored.{Stored}
 use Rattle.vub_mem.specs.declared.region.Region.{Region}
 use Rattle.vub_mem.specs.declared.region.AtomicBitmapMmap.{AtomicBitmapMmap}
@@ -23,6 +23,11 @@ track_fault size tracks r =
     if not (is_aligned r) then Some NotPageAligned else
     if nat_le (8 * size) (last_page r) then Some TooSmall else
     None
+
+-- a region that may get a log of this many bytes
+pub record IsTrackable (size : ℕ) (r : Region) : Type 0 where
+  pub below : last_page r < 8 * size
+  pub aligned : is_aligned r ≡ true
 
 -- the first test that a region fails, by order of the regions
 abbrev pub tracks_fault : ℕ → Bool → List Region → Option LogError

@@ -5,7 +5,7 @@ ghost use Rattle.vub_mem.specs.Sound.{IsBounded, IsLogged};
 ghost use Rattle.vub_mem.specs.Marks.{MarksOne, MarksAll, page_marks, mark_at, marks_of, page_count};
 ghost use Rattle.vub_mem.specs.Found.{IsLogPlace};
 ghost use Rattle.vub_mem.specs.Logs.{log_len, ChangesOne};
-ghost use Rattle.vub_mem.specs.Track.{log_fault, last_page};
+ghost use Rattle.vub_mem.specs.Track.{IsTrackable, log_fault};
 
 use crate::dirty::{DirtyLog, Stored};
 use crate::errors::LogError;
@@ -71,7 +71,7 @@ pub(crate) fn test_log<L: DirtyLog>(
 ) -> Option<LogError>
     requires { AllByRecursion IsBounded regions.now }
     ensures value { result ≡ log_fault L.byte_len logs.now regions.now object offset size tracks }
-    ensures below { IfNone result (AllByRecursion (λ r. last_page r < 8 * size) regions.now) }
+    ensures trackable { IfNone result (AllByRecursion (λ r. IsTrackable size r) regions.now) }
     ensures within { IfNone result (offset + size ≤ log_len L.byte_len logs.now object) }
     ensures bound { log_len L.byte_len logs.now object < 2 ^ 61 }
 {

@@ -1,8 +1,8 @@
 //! Gives the regions of a table their log.
-ghost use Rattle.std.specs.Prelude.{◌≡◌, ◌+◌, ◌-◌, ◌*◌, ◌^◌, ◌<◌, map, IfNone, None};
+ghost use Rattle.std.specs.Prelude.{◌≡◌, ◌+◌, ◌-◌, ◌^◌, ◌<◌, map, IfNone, None};
 ghost use Rattle.std.specs.List.{AllByRecursion};
 ghost use Rattle.vub_mem.specs.Sound.{IsBounded};
-ghost use Rattle.vub_mem.specs.Track.{is_aligned, last_page, track_fault, tracks_fault, with_log};
+ghost use Rattle.vub_mem.specs.Track.{IsTrackable, is_aligned, track_fault, tracks_fault, with_log};
 
 use crate::errors::LogError;
 use crate::region::{AtomicBitmapMmap, Region};
@@ -20,7 +20,7 @@ fn test_track(region: &Region, size: u64, tracks: bool) -> Option<LogError>
     requires bounded { IsBounded region.now }
     requires small { size < 2 ^ 61 }
     ensures value { result ≡ track_fault size tracks region.now }
-    ensures below { IfNone result (last_page region.now < 8 * size) }
+    ensures trackable { IfNone result (IsTrackable size region.now) }
 {
     if !tracks {
         return Some(LogError::Unsupported);
@@ -39,7 +39,7 @@ pub(crate) fn test_tracks(regions: &[Region], size: u64, tracks: bool) -> Option
     requires bounded { AllByRecursion IsBounded regions.now }
     requires small { size < 2 ^ 61 }
     ensures value { result ≡ tracks_fault size tracks regions.now }
-    ensures below { IfNone result (AllByRecursion (λ r. last_page r < 8 * size) regions.now) }
+    ensures trackable { IfNone result (AllByRecursion (λ r. IsTrackable size r) regions.now) }
 {
     for region in regions {
         match test_track(region, size, tracks) {

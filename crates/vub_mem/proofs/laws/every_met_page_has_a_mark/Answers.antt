@@ -2,4 +2,4 @@ use Rattle.vub_mem.proofs.laws.every_met_page_has_a_mark.Goals as goal
 use Rattle.vub_mem.proofs.Pages.{met_page}
 
 pub returns : goal.returns
-returns c = met_page
+returns g c = met_page c.args.memory.now.guest.regions c.regions-regions.ensures.apart c.regions-regions.ensures.bounded

@@ -1,7 +1,6 @@
-use Rattle.std.proofs.Common.{◌<◌, ◌*◌}
 use Rattle.vub_mem.specs.declared.region.Region.{Region}
 use Rattle.vub_mem.specs.Sound.{IsBounded}
-use Rattle.vub_mem.specs.Track.{track_fault, last_page}
+use Rattle.vub_mem.specs.Track.{IsTrackable, track_fault}
 use Rattle.vub_mem.proofs.track.test_tracks.Goals as goal
 use Rattle.vub_mem.proofs.Finds.{faults_some, faults_none, faults_end, all_at, all_more}
 
@@ -14,7 +13,7 @@ returns-in-Some-clause-value c = faults_some (λ r. track_fault c.args.size c.ar
 pub loop-region-preserved : goal.loop-region-preserved
 loop-region-preserved c = (
   faults_none (λ r. track_fault c.args.size c.args.tracks r) _ _ _ _ c.loop-region-test.true c.loop-region.invariant.0 c.in-None.ensures.value,
-  (let Below : Region → Type 0 = λ r. last_page r < 8 * c.args.size in all_more Below _ _ _ c.loop-region-test.true c.loop-region.invariant.1 c.in-None.ensures.below),
+  (let Trackable : Region → Type 0 = λ r. IsTrackable c.args.size r in all_more Trackable _ _ _ c.loop-region-test.true c.loop-region.invariant.1 c.in-None.ensures.trackable),
 )
 
 pub returns-clause-value : goal.returns-clause-value
