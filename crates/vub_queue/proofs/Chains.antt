@@ -1,5 +1,6 @@
 -- Laws of linked descriptors.
-use Rattle.std.proofs.Common.{◌≡◌, ℕ, zero, suc, ◌+◌, ◌-◌, ◌*◌, ◌<◌, ◌≤◌, ◌⊎◌, inl, inr, Bool, true, false, not, cond, List, [], ◌∷◌, ◌++◌, Option, Some, None, refl, sym, ap, subst, ◌∙◌, arith, length, sum_by, length-append, true≢false, bit_and, ltb, leb, ap₂, map, filter}
+use Rattle.std.proofs.Common.{◌≡◌, ℕ, ◌+◌, ◌<◌, ◌≤◌, inl, inr, true, false, not, List, [], ◌∷◌, ◌++◌, Some, None, refl, sym, ap, subst, ◌∙◌, arith, length, sum_by, length-append, true≢false, bit_and, ltb, ap₂, map, filter}
+use Rattle.std.specs.List.{AllByRecursion}
 use Rattle.std.proofs.lemmas.Bool.{eq-eqb, ne_eqb, lt-leb, le-ltb, cases_Bool}
 use Rattle.std.proofs.lemmas.List.Sums.{sum_by_push, sum_by-append, sum_by-cons}
 use Rattle.vub_mem.specs.Memory.{Guest}
@@ -8,9 +9,8 @@ use Rattle.vub_queue.specs.declared.descriptor.Descriptor.{Descriptor}
 use Rattle.vub_queue.specs.declared.segment.Segment.{Segment}
 use Rattle.vub_queue.specs.declared.damage.Damage.{Damage}
 use Rattle.vub_queue.specs.Layout.{Table, slot_of}
-use Rattle.vub_queue.specs.Chain.{has_next, total, Stands, Links, IsChain, descriptor_at, is_indirect, is_writable, room_of, segments_of, segment_of}
-use Rattle.vub_queue.specs.Walk.{CostsIfLong, Leads, Passes, Fits, fault_of, FailsFirst}
-use Rattle.vub_queue.specs.declared.damage.Damage.TheVariants.{RingOutside, IndexAhead, TooLong, BadNumber, Indirect, TooBig, SegmentOutside}
+use Rattle.vub_queue.specs.Chain.{has_next, total, Stands, Links, IsChain, IsCovered, descriptor_at, is_indirect, is_writable, room_of, segments_of, segment_of}
+use Rattle.vub_queue.specs.Walk.{CostsFailure, reads_at, Leads, Passes, Fits, fault_of, FailsFirst}
 
 pub leads_more : (g : Guest) (t : Table) (i j : ℕ) (ds : List Descriptor) (d : Descriptor) → Leads g t i ds j → Stands g t j d → has_next d ≡ true → Leads g t i (ds ++ d ∷ []) d.next
 leads_more g t i j [] d leads stands next = (subst (λ n. Stands g t n d) (sym leads) stands, next, refl)
@@ -167,12 +167,15 @@ pub room_is : (ds : List Descriptor) (ss : List Segment) → ss ≡ segments_of 
 unfolding room_of
 room_is ds ss e = ap (λ l. sum_by (λ s. s.len) l) e
 
--- the steps of a walk that ends with a chain that is too long
-pub long_cost : (size old mid new n : ℕ) (d : Damage) → CostsIfLong size mid (new + n) d → mid ≡ old + n → CostsIfLong size old new d
-long_cost size old mid new n TooLong cost so = omega arith
-long_cost size old mid new n RingOutside cost so = tt
-long_cost size old mid new n IndexAhead cost so = tt
-long_cost size old mid new n BadNumber cost so = tt
-long_cost size old mid new n Indirect cost so = tt
-long_cost size old mid new n TooBig cost so = tt
-long_cost size old mid new n SegmentOutside cost so = tt
+-- the steps of a walk that fails
+pub failure_cost : (g : Guest) (t : Table) (head : ℕ) (ds : List Descriptor) (i s n old mid new : ℕ) (d : Damage) → WalkSo g t head ds i s old mid → n ≡ length ds → fault_of g t n s i ≡ Some d → new + n ≡ mid + reads_at t.size n d → CostsFailure g t head d old new
+failure_cost g t head ds i s n old mid new d so len fault cost =
+    let here : fault_of g t (length ds) (total ds) i ≡ Some d = ap₂ (λ k sum. fault_of g t k sum i) (sym len) (sym so.sum) ∙ fault in
+    let reads : new ≡ old + reads_at t.size n d = omega (arith, so.cost) in
+    (ds, i, so.passes, here, reads ∙ ap (λ k. old + reads_at t.size k d) len)
+
+-- each segment of a chain lies in guest memory
+pub links_covered : (g : Guest) (t : Table) (i : ℕ) (ds : List Descriptor) → Links g t i ds → AllByRecursion (λ d. IsCovered g d) ds
+links_covered g t i [] links = absurd links
+links_covered g t i (d ∷ []) links = (links.0.covered, tt)
+links_covered g t i (d ∷ e ∷ ds) links = (links.0.covered, links_covered g t d.next (e ∷ ds) links.2)

@@ -1,5 +1,5 @@
 -- Where no entry is left.
-use Rattle.std.proofs.Common.{◌≡◌, ℕ, ◌<◌, Bool, true, false, not, cond, refl, sym, ap, arith, ltb}
+use Rattle.std.proofs.Common.{◌≡◌, ℕ, Bool, true, false, not, cond, refl, arith}
 use Rattle.std.specs.Prelude.{◌↔◌, ◌||◌, ◌==◌, nat_lt}
 use Rattle.std.specs.Int.{w16}
 use Rattle.std.proofs.lemmas.Bool.{eqb-true, le-ltb}

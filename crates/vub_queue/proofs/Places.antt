@@ -1,5 +1,5 @@
 -- Which bytes putting and taking leave alone.
-use Rattle.std.proofs.Common.{◌≡◌, ℕ, ◌+◌, Bool, true, false, cond, List, [], ◌∷◌, ◌++◌, length, length-append, take, drop, refl, sym, ap, subst, ◌∙◌, arith}
+use Rattle.std.proofs.Common.{◌≡◌, ℕ, Bool, true, false, cond, List, [], ◌∷◌, ◌++◌, length, take, drop, refl, sym, subst, ◌∙◌}
 use Rattle.std.specs.Int.{w16, w32, to_le_bytes}
 use Rattle.vub_mem.specs.Laws.{IsElsewhere, byte_of}
 use Rattle.vub_mem.specs.Memory.{Guest}

@@ -1,6 +1,6 @@
 -- Laws of a reply over segments.
-use Rattle.std.proofs.Common.{◌≡◌, ℕ, zero, suc, ◌+◌, ◌-◌, ◌<◌, ◌≤◌, Bool, true, false, ◌&&◌, List, [], ◌∷◌, ◌++◌, length, get_or, take, drop, drop-cons, drop_of_length-le, append_assoc, append-nil, cond, refl, sym, ap, ap₂, subst, ◌∙◌, arith}
-use Rattle.std.proofs.lemmas.Bool.{and_left, and_parts, cond-true}
+use Rattle.std.proofs.Common.{◌≡◌, ℕ, suc, ◌+◌, ◌<◌, ◌≤◌, Bool, true, false, ◌&&◌, List, ◌++◌, length, get_or, take, drop, drop-cons, drop_of_length-le, append_assoc, append-nil, sym, ap, ap₂, subst, ◌∙◌, arith}
+use Rattle.std.proofs.lemmas.Bool.{and_left, and_parts}
 use Rattle.vub_mem.proofs.MarkLaws.{marks_append}
 use Rattle.vub_mem.specs.Marks.{Mark, MarksAll, marks_of}
 use Rattle.vub_mem.specs.declared.dirty.Stored.{Stored}
@@ -56,15 +56,14 @@ write_end g ss i rest h = ap (λ l. write_reply g l rest) (drop_of_length-le ss 
 
 -- one segment more is written
 pub room_more : (old now next : Guest) (ss : List Segment) (reply : List ℕ) (i : ℕ) (d : Segment) (rest piece after : List ℕ) → i < length ss → RoomSo old now ss reply i rest → piece ≡ take (get_or ss i d).len rest → after ≡ drop (get_or ss i d).len rest →
-    next.regions ≡ now.regions → (covers now.regions (get_or ss i d).addr (length piece) ≡ true → next ≡ write_at now (get_or ss i d).addr piece) → RoomSo old next ss reply (i + 1) after
+    next.regions ≡ now.regions → next ≡ write_at now (get_or ss i d).addr piece → RoomSo old next ss reply (i + 1) after
 room_more old now next ss reply i d rest piece after h so is back regions writes =
     let both : (covers old.regions (get_or ss i d).addr (length (take (get_or ss i d).len rest)) ≡ true) × (room_covers old.regions (drop (i + 1) ss) (drop (get_or ss i d).len rest) ≡ true) =
     and_parts (covers old.regions (get_or ss i d).addr (length (take (get_or ss i d).len rest))) (room_covers old.regions (drop (i + 1) ss) (drop (get_or ss i d).len rest)) (sym (room_step old.regions ss i d rest h) ∙ so.covered) in
-    let here : covers now.regions (get_or ss i d).addr (length piece) ≡ true = ap₂ (λ rs p. covers rs (get_or ss i d).addr (length p)) so.regions is ∙ both.0 in
     record {
       regions = regions ∙ so.regions;
       covered = ap (λ r. room_covers old.regions (drop (i + 1) ss) r) back ∙ both.1;
-      written = ap₂ (λ m r. write_reply m (drop (i + 1) ss) r) (writes here ∙ ap (λ p. write_at now (get_or ss i d).addr p) is) back ∙ sym (write_step now ss i d rest h) ∙ so.written;
+      written = ap₂ (λ m r. write_reply m (drop (i + 1) ss) r) (writes ∙ ap (λ p. write_at now (get_or ss i d).addr p) is) back ∙ sym (write_step now ss i d rest h) ∙ so.written;
     }
 
 pub room_keep : (rs : List Region) (ss : List Segment) (i : ℕ) (d : Segment) (rest piece after : List ℕ) (b : Bool) → i < length ss → room_covers rs (drop i ss) rest ≡ b → piece ≡ take (get_or ss i d).len rest → after ≡ drop (get_or ss i d).len rest → covers rs (get_or ss i d).addr (length piece) ≡ true →
@@ -108,10 +107,6 @@ marks_end step rs old now ss reply i rest h so =
     let whole : so.made ≡ reply_marks rs ss reply = sym (append-nil so.made) ∙ ap (λ l. so.made ++ reply_marks rs l rest) (sym (drop_of_length-le ss h)) ∙ so.split in
     subst (λ ms. MarksAll step old ms now) whole so.marks
 
--- what a write of covered bytes marks
-pub marks_covered : {L : Type 0} → (step : L → ℕ → L → Type 0) (now next : List (Stored L)) (b : Bool) (ms : List Mark) → b ≡ true → MarksAll step now (cond b ms []) next → MarksAll step now ms next
-marks_covered step now next b ms e marks = subst (λ l. MarksAll step now l next) (cond-true b ms [] e) marks
-
 -- the next piece is covered
 pub room_here : (old now : Guest) (ss : List Segment) (reply : List ℕ) (i : ℕ) (d : Segment) (rest piece : List ℕ) → i < length ss → RoomSo old now ss reply i rest → piece ≡ take (get_or ss i d).len rest → covers now.regions (get_or ss i d).addr (length piece) ≡ true
 room_here old now ss reply i d rest piece h so is =
@@ -119,9 +114,8 @@ room_here old now ss reply i d rest piece h so is =
     and_parts (covers old.regions (get_or ss i d).addr (length (take (get_or ss i d).len rest))) (room_covers old.regions (drop (i + 1) ss) (drop (get_or ss i d).len rest)) (sym (room_step old.regions ss i d rest h) ∙ so.covered) in
     ap₂ (λ rs p. covers rs (get_or ss i d).addr (length p)) so.regions is ∙ both.0
 
-pub marks_here : {L : Type 0} → (step : L → ℕ → L → Type 0) (rs qs : List Region) (now next : List (Stored L)) (a n : ℕ) → qs ≡ rs → covers qs a n ≡ true → MarksAll step now (cond (covers qs a n) (marks_of qs a n) []) next → MarksAll step now (marks_of rs a n) next
-marks_here step rs qs now next a n e all marks =
-    subst (λ r. MarksAll step now (marks_of r a n) next) e (marks_covered step now next (covers qs a n) (marks_of qs a n) all marks)
+pub marks_here : {L : Type 0} → (step : L → ℕ → L → Type 0) (rs qs : List Region) (now next : List (Stored L)) (a n : ℕ) → qs ≡ rs → MarksAll step now (marks_of qs a n) next → MarksAll step now (marks_of rs a n) next
+marks_here step rs qs now next a n e marks = subst (λ r. MarksAll step now (marks_of r a n) next) e marks
 
 -- the marks of one write and of the next
 pub marks_two : {L : Type 0} → (step : L → ℕ → L → Type 0) (rs qs : List Region) (f : List Region → List Mark) (old mid new : List (Stored L)) (ms : List Mark) → qs ≡ rs → MarksAll step old ms mid → MarksAll step mid (f qs) new → MarksAll step old (ms ++ f rs) new

@@ -1,20 +1,14 @@
 -- A ring in a memory gives one answer.
-use Rattle.std.proofs.Common.{◌≡◌, ℕ, ◌⊎◌, inl, inr, List, ◌+◌, length, Bool, true, false, true≢false, refl, sym, ap, subst, ◌∙◌, cond}
+use Rattle.std.proofs.Common.{◌≡◌, ℕ, ◌⊎◌, inl, inr, List, ◌+◌, length, Bool, true, false, true≢false, refl, sym, ap, subst, ◌∙◌}
 use Rattle.vub_mem.specs.Memory.{Guest}
 use Rattle.vub_queue.specs.Chain.{IsChain, chain_of}
 use Rattle.vub_queue.specs.Layout.{table_of}
 use Rattle.vub_queue.specs.Ring.{Ring}
-use Rattle.std.specs.Prelude.{not, nat_lt, ◌==◌}
-use Rattle.std.specs.Int.{w16}
-use Rattle.vub_mem.specs.Place.{covers, number_at}
-use Rattle.vub_queue.specs.EntryNumber.{index_covers, left_of}
-use Rattle.vub_queue.specs.Layout.{avail_slot_at}
-use Rattle.vub_queue.specs.Take.{IsDamaged, IsEntry, Looks, Taken, event_covers, head_of}
-use Rattle.vub_queue.specs.Walk.{CostsIfLong, FailsFirst}
+use Rattle.vub_queue.specs.Take.{IsDamaged, IsEntry, Taken, event_covers, head_of}
+use Rattle.vub_queue.specs.Walk.{FailsFirst}
 use Rattle.vub_queue.proofs.Chains.{links_one, chain_whole, fails_one}
 use Rattle.vub_queue.specs.declared.chain.Chain.{Chain}
 use Rattle.vub_queue.specs.declared.damage.Damage.{Damage}
-use Rattle.vub_queue.specs.declared.damage.Damage.TheVariants.{RingOutside, IndexAhead, TooLong, BadNumber, Indirect, TooBig, SegmentOutside}
 use Rattle.vub_queue.specs.declared.descriptor.Descriptor.{Descriptor}
 use Rattle.vub_queue.specs.declared.head.Head.{Head}
 use Rattle.vub_queue.specs.declared.head.Head.TheVariants.{Empty, At, Broken}
@@ -61,17 +55,6 @@ empty_or_damage : (g : Guest) (r : Ring) (d : Damage) → head_of g r ≡ Empty 
 empty_or_damage g r d p (inl e) = broken_empty (head_of g r) d p e
 empty_or_damage g r d p (inr e) = at_empty (head_of g r) e.0 p e.1
 
-pub looks_one : (g : Guest) (r : Ring) (t u : Took) → Looks g r t → Looks g r u → t ≡ u
-looks_one g r (took.Entry c) (took.Entry e) p q = ap took.Entry (one_entry g r c e p q)
-looks_one g r (took.Entry c) took.None p q = absurd (at_empty (head_of g r) c.head q p.1)
-looks_one g r (took.Entry c) (took.Damaged d) p q = absurd (entry_or_damage g r c d p q)
-looks_one g r took.None (took.Entry e) p q = absurd (at_empty (head_of g r) e.head p q.1)
-looks_one g r took.None took.None p q = refl
-looks_one g r took.None (took.Damaged d) p q = absurd (empty_or_damage g r d p q)
-looks_one g r (took.Damaged d) (took.Entry e) p q = absurd (entry_or_damage g r e d q p)
-looks_one g r (took.Damaged d) took.None p q = absurd (empty_or_damage g r d q p)
-looks_one g r (took.Damaged d) (took.Damaged e) p q = ap took.Damaged (one_damage g r d e p q)
-
 -- all chains of a head have one length
 pub one_cost : (g : Guest) (r : Ring) (h : ℕ) (ds : List Descriptor) (c : Chain) (old new : ℕ) → IsChain g (table_of r) h ds → c ≡ chain_of g h ds → new ≡ old + length ds → (es : List Descriptor) → IsChain g (table_of r) c.head es → new ≡ old + length es
 one_cost g r h ds c old new chain made cost es other =
@@ -107,24 +90,3 @@ taken_one g r took.None (took.Damaged d) p q = absurd (nothing_or_damage g r d p
 taken_one g r (took.Damaged d) (took.Entry e) p q = absurd (entry_or_damage_here g r e d q p)
 taken_one g r (took.Damaged d) took.None p q = absurd (nothing_or_damage g r d q p)
 taken_one g r (took.Damaged d) (took.Damaged e) p q = ap took.Damaged (one_damage_here g r d e p q)
-
--- the available ring's own tests find no chain too long
-tests_not_long : (a b c d : Bool) (n : ℕ) → cond a (Broken RingOutside) (cond b (Broken IndexAhead) (cond c Empty (cond d (Broken RingOutside) (At n)))) ≡ Broken TooLong → ⊥
-tests_not_long true b c d n e = cc
-tests_not_long false true c d n e = cc
-tests_not_long false false true d n e = cc
-tests_not_long false false false true n e = cc
-tests_not_long false false false false n e = cc
-
-head_not_long : (g : Guest) (r : Ring) → head_of g r ≡ Broken TooLong → ⊥
-unfolding head_of
-head_not_long g r e = tests_not_long (not (index_covers g r)) (nat_lt r.size (left_of g r)) (left_of g r == 0) (not (covers g.regions (avail_slot_at r) 2)) (number_at w16 g (avail_slot_at r)) e
-
-pub broken_cost : (g : Guest) (r : Ring) (n : ℕ) (d : Damage) → head_of g r ≡ Broken d → CostsIfLong r.size n n d
-broken_cost g r n TooLong e = absurd (head_not_long g r e)
-broken_cost g r n RingOutside e = tt
-broken_cost g r n IndexAhead e = tt
-broken_cost g r n BadNumber e = tt
-broken_cost g r n Indirect e = tt
-broken_cost g r n TooBig e = tt
-broken_cost g r n SegmentOutside e = tt

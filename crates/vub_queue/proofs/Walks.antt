@@ -1,10 +1,10 @@
 -- The function meets the relation.
-use Rattle.std.proofs.Common.{◌≡◌, ℕ, zero, suc, ◌+◌, ◌<◌, ◌≤◌, ◌⊎◌, inl, inr, Bool, true, false, not, ◌&&◌, cond, List, [], ◌∷◌, ◌++◌, length, Option, Some, None, Result, Ok, Err, refl, sym, ap, subst, ◌∙◌, arith, length-append, leb, ltb}
-use Rattle.std.proofs.lemmas.Bool.{cases_Bool, cond-true, cond-false, leb-false, ltb-false}
+use Rattle.std.proofs.Common.{◌≡◌, ℕ, zero, suc, ◌+◌, inl, inr, Bool, true, false, not, ◌&&◌, cond, List, [], ◌∷◌, ◌++◌, length, Option, Some, None, Result, Ok, Err, refl, sym, arith, length-append, leb, ltb}
+use Rattle.std.proofs.lemmas.Bool.{leb-false, ltb-false}
 use Rattle.std.proofs.lemmas.List.Sums.{sum_by_push}
 use Rattle.vub_mem.specs.Memory.{Guest}
 use Rattle.vub_mem.specs.Place.{covers}
-use Rattle.vub_queue.specs.Chain.{IsChain, Stands, chain_of, descriptor_at, has_next, is_indirect, total}
+use Rattle.vub_queue.specs.Chain.{IsChain, descriptor_at, has_next, is_indirect, total}
 use Rattle.vub_queue.specs.Function.{finish_of, look_of, took_head, took_of, took_walk, unless_fault, walk_from, walk_of}
 use Rattle.vub_queue.specs.Layout.{Table, slot_of, table_of}
 use Rattle.vub_queue.specs.Ring.{Ring}

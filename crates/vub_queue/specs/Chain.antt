@@ -1,14 +1,12 @@
 -- The chain of a head: a relation on a whole list of descriptors (virtio 1.2, 2.7.5). Descriptors with INDIRECT are in
 -- no chain. That the lengths of a chain add to less than 2^32 is this crate's own limit.
-use Rattle.std.specs.Prelude.{◌≡◌, ℕ, ◌+◌, ◌<◌, ◌≤◌, Bool, true, false, not, ◌==◌, nat_le, nat_lt, if◌then◌else◌, List, [], ◌∷◌, length, Option, Some, None, bit_and, map, sum_by, filter}
+use Rattle.std.specs.Prelude.{◌≡◌, ℕ, ◌+◌, ◌<◌, ◌≤◌, Bool, true, false, not, ◌==◌, if◌then◌else◌, List, [], ◌∷◌, length, bit_and, map, sum_by, filter}
 use Rattle.std.specs.List.{flat_map}
 use Rattle.std.specs.Int.{w16, w32, w64}
 use Rattle.vub_mem.specs.Memory.{Guest}
 use Rattle.vub_mem.specs.Place.{covers, bytes_at, number_at}
 use Rattle.vub_queue.specs.Layout.{Table, slot_of}
 use Rattle.vub_queue.specs.declared.chain.Chain.{Chain}
-use Rattle.vub_queue.specs.declared.damage.Damage.{Damage}
-use Rattle.vub_queue.specs.declared.damage.Damage.TheVariants.{RingOutside, TooLong, BadNumber, Indirect, TooBig, SegmentOutside}
 use Rattle.vub_queue.specs.declared.descriptor.Descriptor.{Descriptor}
 use Rattle.vub_queue.specs.declared.segment.Segment.{Segment}
 
@@ -50,6 +48,10 @@ pub record IsChain (g : Guest) (t : Table) (head : ℕ) (ds : List Descriptor) :
   pub links : Links g t head ds
   pub short : length ds ≤ t.size
   pub small : total ds ≤ 4294967295
+
+-- the segment of the descriptor lies in guest memory
+abbrev pub IsCovered : Guest → Descriptor → Type 0
+IsCovered g d = covers g.regions d.addr d.len ≡ true
 
 -- what the device reads of a descriptor: the bytes of its segment, if the driver wrote it
 unfoldable pub read_part : Guest → Descriptor → List ℕ

@@ -1,5 +1,5 @@
 -- Looking at the next entry as a function of the memory and the ring: the walk that the relation does not name.
-use Rattle.std.specs.Prelude.{ℕ, zero, suc, if◌then◌else◌, List, [], ◌∷◌, ◌++◌, length, Option, Some, None, Result, Ok, Err, Bool, true, false, not, ◌&&◌}
+use Rattle.std.specs.Prelude.{ℕ, zero, suc, if◌then◌else◌, List, [], ◌∷◌, ◌++◌, length, Option, Some, None, Result, Ok, Err, not, ◌&&◌}
 use Rattle.vub_mem.specs.Memory.{Guest}
 use Rattle.vub_queue.specs.Chain.{chain_of, descriptor_at, has_next, total}
 use Rattle.vub_queue.specs.Layout.{Table, slot_of, table_of}

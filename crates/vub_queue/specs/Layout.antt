@@ -1,6 +1,6 @@
 -- Where the parts of a ring's words lie in guest memory (virtio 1.2: the descriptor table 2.7.5, the available ring
 -- 2.7.6, the used ring 2.7.8). All of them are little-endian.
-use Rattle.std.specs.Prelude.{ℕ, ◌+◌, ◌*◌, ◌%◌, Option}
+use Rattle.std.specs.Prelude.{ℕ, ◌+◌, ◌*◌, ◌%◌}
 use Rattle.std.specs.Option.{unwrap_or}
 use Rattle.vub_queue.specs.Ring.{Ring}
 use Rattle.vub_queue.specs.declared.addresses.Addresses.{Addresses}

@@ -1,6 +1,6 @@
 -- Whether the driver wants to be notified of what was used, and what it is told to notify of (virtio 1.2, 2.7.7 and
 -- 2.7.10).
-use Rattle.std.specs.Prelude.{ℕ, Bool, true, false, nat_lt, if◌then◌else◌, List, Result, Ok, Err}
+use Rattle.std.specs.Prelude.{ℕ, Bool, true, nat_lt, if◌then◌else◌, List, Result, Ok, Err}
 use Rattle.std.specs.Int.{w16, to_le_bytes}
 use Rattle.vub_mem.specs.Memory.{Guest}
 use Rattle.vub_mem.specs.Place.{covers, number_at, write_at}

@@ -1,5 +1,5 @@
 -- What putting a reply answers and does.
-use Rattle.std.specs.Prelude.{ℕ, Bool, true, false, not, ◌&&◌, if◌then◌else◌, nat_lt, List, [], ◌∷◌, ◌++◌, length, take, drop, Result, Ok, Err}
+use Rattle.std.specs.Prelude.{ℕ, Bool, true, not, ◌&&◌, if◌then◌else◌, nat_lt, List, [], ◌∷◌, ◌++◌, length, take, drop, Result, Ok, Err}
 use Rattle.std.specs.Int.{w16, w32, to_le_bytes}
 use Rattle.vub_mem.specs.Memory.{Guest}
 use Rattle.vub_mem.specs.Marks.{Mark, marks_of}

@@ -1,11 +1,18 @@
 -- The state of a new queue, and which sizes and addresses a queue takes.
-use Rattle.std.specs.Prelude.{◌≡◌, ℕ, ◌%◌, Bool, true, false, not, ◌==◌, ◌&&◌, nat_le, if◌then◌else◌, None, Result, Ok, Err}
+use Rattle.std.specs.Prelude.{◌≡◌, ℕ, ◌%◌, false, not, ◌==◌, ◌&&◌, nat_le, if◌then◌else◌, List, None, Result, Ok, Err, codes}
 use Rattle.std.specs.Int.{is_power_of_two}
 use Rattle.vub_queue.specs.Ring.{Ring}
 use Rattle.vub_queue.specs.declared.addresses.Addresses.{Addresses}
 use Rattle.vub_queue.specs.declared.error.QueueError.{QueueError}
 use Rattle.vub_queue.specs.declared.error.QueueError.TheVariants.{InvalidMaxSize, InvalidSize, Misaligned}
+use Rattle.vub_queue.specs.declared.error.RingPart.{RingPart}
 use Rattle.vub_queue.specs.declared.error.RingPart.TheVariants.{Desc, Avail, Used}
+
+-- how an error names a part of a ring
+abbrev pub part_text : RingPart → List ℕ
+part_text Desc = codes "descriptor table"
+part_text Avail = codes "available ring"
+part_text Used = codes "used ring"
 
 -- a queue before the driver has set it up
 abbrev pub new_ring : ℕ → Ring

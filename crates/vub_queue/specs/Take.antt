@@ -1,5 +1,5 @@
 -- What taking the next entry of a ring answers, does and costs.
-use Rattle.std.specs.Prelude.{◌≡◌, ℕ, ◌+◌, ◌⊎◌, Bool, true, false, not, nat_lt, ◌==◌, if◌then◌else◌, List, [], length, sum_by, Option, Some}
+use Rattle.std.specs.Prelude.{◌≡◌, ℕ, ◌+◌, ◌⊎◌, Bool, true, false, not, nat_lt, ◌==◌, if◌then◌else◌, List, [], length, sum_by}
 use Rattle.std.specs.Int.{w16, to_le_bytes}
 use Rattle.vub_mem.specs.Memory.{Guest}
 use Rattle.vub_mem.specs.Marks.{Mark, marks_of}
@@ -9,7 +9,7 @@ use Rattle.vub_queue.specs.Chain.{IsChain, chain_of}
 use Rattle.vub_queue.specs.EntryNumber.{after, index_covers, left_of}
 use Rattle.vub_queue.specs.Layout.{avail_event_at, avail_slot_at, table_of}
 use Rattle.vub_queue.specs.Ring.{Ring}
-use Rattle.vub_queue.specs.Walk.{CostsIfLong, FailsFirst}
+use Rattle.vub_queue.specs.Walk.{CostsFailure, FailsFirst}
 use Rattle.vub_queue.specs.declared.chain.Chain.{Chain}
 use Rattle.vub_queue.specs.declared.damage.Damage.{Damage}
 use Rattle.vub_queue.specs.declared.damage.Damage.TheVariants.{RingOutside, IndexAhead}
@@ -76,12 +76,17 @@ marks_taken rs r (took.Entry c) = []
 marks_taken rs r took.None = if r.event_idx then marks_of rs (avail_event_at r) 2 else []
 marks_taken rs r (took.Damaged d) = []
 
--- An entry costs a step for each descriptor of its chain, an empty ring none, and a chain that is too long as many as the
--- table has descriptors.
+-- Damage costs a step for each descriptor that was read: none where the available ring fails a test, or where nothing is
+-- left and avail_event can't be written.
+abbrev pub CostsDamage : Guest → Ring → Damage → ℕ → ℕ → Type 0
+CostsDamage g r d old new =
+    (((head_of g r ≡ Broken d) ⊎ IsEmpty g r) × (new ≡ old)) ⊎ ((head : ℕ) × (head_of g r ≡ At head) × CostsFailure g (table_of r) head d old new)
+
+-- An entry costs a step for each descriptor of its chain, an empty ring none, and damage one for each that was read.
 abbrev pub Costs : Guest → Ring → ℕ → ℕ → Took → Type 0
 Costs g r old new (took.Entry c) = (ds : List Descriptor) → IsChain g (table_of r) c.head ds → new ≡ old + length ds
 Costs g r old new took.None = new ≡ old
-Costs g r old new (took.Damaged d) = CostsIfLong r.size old new d
+Costs g r old new (took.Damaged d) = CostsDamage g r d old new
 
 -- the room of an entry is what its segments hold
 abbrev pub HasRoom : Took → Type 0

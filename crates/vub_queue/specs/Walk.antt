@@ -1,5 +1,5 @@
 -- Where a head has no chain: the first test that fails on the way from the head.
-use Rattle.std.specs.Prelude.{◌≡◌, ℕ, ◌+◌, ◌<◌, ◌≤◌, Bool, true, false, not, nat_le, nat_lt, if◌then◌else◌, List, [], ◌∷◌, length, Option, Some, None}
+use Rattle.std.specs.Prelude.{◌≡◌, ℕ, ◌+◌, ◌<◌, ◌≤◌, true, not, nat_le, nat_lt, if◌then◌else◌, List, [], ◌∷◌, length, Option, Some, None}
 use Rattle.vub_mem.specs.Memory.{Guest}
 use Rattle.vub_mem.specs.Place.{covers}
 use Rattle.vub_queue.specs.Chain.{IsChain, Stands, descriptor_at, has_next, is_indirect, total}
@@ -49,17 +49,23 @@ abbrev pub Walks : Guest → Table → ℕ → Walk → Type 0
 Walks g t head (Whole ds) = IsChain g t head ds.items
 Walks g t head (Failed damage) = FailsFirst g t head damage
 
--- a chain that is too long costs as many steps as the table has descriptors
-abbrev pub CostsIfLong : ℕ → ℕ → ℕ → Damage → Type 0
-CostsIfLong size old new TooLong = new ≡ old + size
-CostsIfLong size old new RingOutside = Unit {0}
-CostsIfLong size old new IndexAhead = Unit {0}
-CostsIfLong size old new BadNumber = Unit {0}
-CostsIfLong size old new Indirect = Unit {0}
-CostsIfLong size old new TooBig = Unit {0}
-CostsIfLong size old new SegmentOutside = Unit {0}
+-- How many descriptors of a table of this size are read where this test fails after n that pass: those, and the one that
+-- fails where the test is of what it says. A chain that is too long has as many before as the table.
+abbrev pub reads_at : ℕ → ℕ → Damage → ℕ
+reads_at size n TooLong = size
+reads_at size n BadNumber = n
+reads_at size n RingOutside = n
+reads_at size n IndexAhead = n
+reads_at size n Indirect = n + 1
+reads_at size n TooBig = n + 1
+reads_at size n SegmentOutside = n + 1
+
+-- a walk that fails costs a step for each descriptor that it read
+abbrev pub CostsFailure : Guest → Table → ℕ → Damage → ℕ → ℕ → Type 0
+CostsFailure g t head damage old new =
+    (ds : List Descriptor) × (i : ℕ) × Passes g t head ds i × (fault_of g t (length ds) (total ds) i ≡ Some damage) × (new ≡ old + reads_at t.size (length ds) damage)
 
 -- a whole walk costs a step for each descriptor
-abbrev pub CostsAsWalk : ℕ → ℕ → ℕ → Walk → Type 0
-CostsAsWalk size old new (Whole ds) = new ≡ old + length ds.items
-CostsAsWalk size old new (Failed damage) = CostsIfLong size old new damage
+abbrev pub CostsAsWalk : Guest → Table → ℕ → ℕ → ℕ → Walk → Type 0
+CostsAsWalk g t head old new (Whole ds) = new ≡ old + length ds.items
+CostsAsWalk g t head old new (Failed damage) = CostsFailure g t head damage old new

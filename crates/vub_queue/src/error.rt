@@ -1,3 +1,6 @@
+ghost use Rattle.std.specs.Prelude.{Some};
+ghost use Rattle.vub_queue.specs.Settings.{part_text};
+
 use std::fmt;
 use thiserror::Error;
 
@@ -30,6 +33,8 @@ pub enum QueueError {
 }
 
 impl fmt::Display for RingPart {
+    ghost output = { λ part. Some (part_text part) };
+
     fn fmt<W: fmt::Write>(&self, f: &mut fmt::Formatter<W>) -> fmt::Result {
         match self {
             RingPart::Desc => f.write_str("descriptor table"),

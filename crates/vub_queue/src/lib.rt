@@ -31,7 +31,7 @@ pub use laws::{
 };
 pub use putting::{PutFault, put};
 pub use queue::Queue;
-pub use segment::{Segment, Segments};
+pub use segment::{Segment, Segments, split};
 pub use taking::take;
 pub use took::Took;
 

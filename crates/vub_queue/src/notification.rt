@@ -110,7 +110,7 @@ impl Queue {
         match asking_place(memory, self) {
             None => Err(QueueError::Outside),
             Some(word) => {
-                let _ = memory.write_u16(word, asking_word(self));
+                memory.write_covered(word, &asking_word(self).to_le_bytes());
                 Ok(entry_is_left(memory, self))
             }
         }
@@ -138,7 +138,7 @@ impl Queue {
         if !memory.covers(at.used, 2) {
             return Err(QueueError::Outside);
         }
-        let _ = memory.write_u16(at.used, 1);
+        memory.write_covered(at.used, &1u16.to_le_bytes());
         Ok(())
     }
 

@@ -21,7 +21,7 @@ fn publish<L: DirtyLog>(queue: &Queue, memory: &mut GuestMemory<L>) -> bool
     match memory.locate(at.used, 4 + 8 * queue.size() as u64, 2) {
         None => false,
         Some(word) => {
-            let _ = memory.write_u16(word, queue.next_avail());
+            memory.write_covered(word, &queue.next_avail().to_le_bytes());
             true
         }
     }

@@ -1,4 +1,4 @@
-ghost use Rattle.std.specs.Prelude.{◌≡◌, ◌≤◌, ◌<◌, ◌^◌, true, IsSome, OnOk, OnErr, length, take, drop, sum_by};
+ghost use Rattle.std.specs.Prelude.{◌≡◌, ◌≤◌, ◌<◌, ◌^◌, true, IsSome, OnOk, OnErr, length, sum_by};
 ghost use Rattle.vub_mem.specs.Marks.{MarksAll, page_marks};
 ghost use Rattle.vub_queue.specs.Notification.{ring_told, used_event_covers, wants_notification};
 ghost use Rattle.vub_queue.specs.Put.{put_answer, put_guest, put_marks, reply_marks, ring_used, room_covers, used_covers, write_reply};
@@ -6,7 +6,7 @@ ghost use Rattle.vub_queue.specs.Put.{put_answer, put_guest, put_marks, reply_ma
 use crate::chain::Chain;
 use crate::notification::{is_wanted, used_event_is_covered};
 use crate::queue::Queue;
-use crate::segment::Segment;
+use crate::segment::{Segment, split};
 use crate::using::{use_is_covered, write_use};
 use thiserror::Error;
 use vub_mem::{DirtyLog, GuestMemory};
@@ -20,18 +20,6 @@ pub enum PutFault {
     /// The used element, the index word or used_event is not in guest memory.
     #[error("word of a ring is outside guest memory")]
     RingOutside,
-}
-
-/// The first bytes of the rest, at most `len`, and those after them.
-fn split(rest: &[u8], len: u32) -> (&[u8], &[u8])
-    ensures front { result.0.now ≡ take len rest.now }
-    ensures back { result.1.now ≡ drop len rest.now }
-{
-    if (len as usize) < rest.len() {
-        rest.split_at(len as usize)
-    } else {
-        (rest, &[])
-    }
 }
 
 /// Whether the bytes of the segments that the reply fills are covered.
@@ -59,7 +47,7 @@ fn write_room<L: DirtyLog>(memory: &mut GuestMemory<L>, segments: &[Segment], re
     let mut rest = reply;
     for segment in segments {
         let (piece, behind) = split(rest, segment.len);
-        let _ = memory.write(segment.addr, piece);
+        memory.write_covered(segment.addr, piece);
         rest = behind;
     }
 }

@@ -1,6 +1,6 @@
-ghost use Rattle.std.specs.Prelude.{◌≡◌};
+ghost use Rattle.std.specs.Prelude.{◌≡◌, take, drop};
 
-use std::marker::Model;
+use vub_base::Listed;
 
 /// A range of guest addresses.
 #[derive(Clone, Copy, Debug, PartialEq, Eq)]
@@ -12,32 +12,16 @@ pub struct Segment {
 }
 
 /// A list of segments.
-#[derive(Debug, Drop)]
-pub struct Segments {
-    items: Vec<Segment>,
-}
+pub type Segments = Listed<Segment>;
 
-impl Model for Segments {
-    ghost use Rattle.std.specs.Prelude.{List};
-    ghost use Rattle.vub_queue.specs.declared.segment.Segment.{Segment};
-
-    ghost Value = { List Segment };
-
-    ghost view = { λ s. s.items.items };
-}
-
-impl Segments {
-    /// The segments of this vector, whose memory is kept.
-    pub fn from_vec(items: Vec<Segment>) -> Segments
-        ensures { result ≡ items.items }
-    {
-        Segments { items }
-    }
-
-    /// The segments, lent.
-    pub fn as_slice(&self) -> &[Segment]
-        ensures { result.now ≡ self.now }
-    {
-        self.items.as_slice()
+/// The first bytes of the rest of a reply, at most `len`, which a segment of this length holds, and those after them.
+pub fn split(rest: &[u8], len: u32) -> (&[u8], &[u8])
+    ensures front { result.0.now ≡ take len rest.now }
+    ensures back { result.1.now ≡ drop len rest.now }
+{
+    if (len as usize) < rest.len() {
+        rest.split_at(len as usize)
+    } else {
+        (rest, &[])
     }
 }

@@ -1,6 +1,7 @@
 ghost use Rattle.std.specs.Prelude.{◌≡◌, ◌<◌, ◌^◌, IfOk, OnOk, OnErr, IsSome, ◌++◌, ◌+◌, ◌≤◌, sum_by};
+ghost use Rattle.std.specs.List.{AllByRecursion};
 ghost use Rattle.vub_mem.specs.Marks.{MarksAll, page_marks};
-ghost use Rattle.vub_queue.specs.Chain.{chain_of, read_part, request_of, segments_of, total};
+ghost use Rattle.vub_queue.specs.Chain.{IsCovered, chain_of, read_part, request_of, segments_of, total};
 ghost use Rattle.vub_queue.specs.Take.{Costs, HasRoom, Looks, Taken, guest_taken, marks_taken, ring_taken};
 ghost use Rattle.vub_queue.specs.declared.took.Took.{Took};
 
@@ -25,14 +26,13 @@ fn append_part<L: DirtyLog>(
     descriptor: &Descriptor,
     request: &mut Vec<u8>,
 ) -> Result<(), OutOfMemory>
+    requires { IsCovered memory.now.guest descriptor.now }
     ensures { OnOk result (request.new.items ≡ request.old.items ++ read_part memory.now.guest descriptor.now) }
 {
     if descriptor.flags & 2 != 0 {
         return Ok(());
     }
-    let Ok(bytes) = memory.read(alloc, descriptor.addr, descriptor.len as u64) else {
-        return Err(OutOfMemory);
-    };
+    let bytes = memory.read_covered(alloc, descriptor.addr, descriptor.len as u64)?;
     if request.is_empty() {
         *request = bytes.into_vec();
         return Ok(());
@@ -48,6 +48,7 @@ fn read_request<L: DirtyLog>(
     memory: &GuestMemory<L>,
     descriptors: &[Descriptor],
 ) -> Result<Bytes, OutOfMemory>
+    requires { AllByRecursion (λ d. IsCovered memory.now.guest d) descriptors.now }
     ensures { IfOk result (λ b. b ≡ request_of memory.now.guest descriptors.now) }
 {
     let mut request = Vec::new(alloc);
@@ -89,7 +90,8 @@ fn make_chain<L: DirtyLog>(
     head: u16,
     descriptors: &[Descriptor],
 ) -> Result<Chain, OutOfMemory>
-    requires { total descriptors.now ≤ 4294967295 }
+    requires small { total descriptors.now ≤ 4294967295 }
+    requires covered { AllByRecursion (λ d. IsCovered memory.now.guest d) descriptors.now }
     ensures chain { IfOk result (λ c. c ≡ chain_of memory.now.guest head descriptors.now) }
     ensures room { IfOk result (λ c. c.room ≡ sum_by (λ s. s.len) c.segments) }
 {
@@ -135,7 +137,7 @@ fn look<L: DirtyLog, K: Ledger>(
 /// Takes the next entry of the available ring (virtio 1.2, 2.7.6 and 2.7.13). It answers Entry where the next head has
 /// a chain, with the bytes that the driver wrote and the segments that the device may write; None where nothing is
 /// left; and else Damaged with the first test that fails, which changes nothing. Each descriptor that is read is one
-/// step on the counter.
+/// step on the counter, at most as many as the queue's size.
 ///
 /// Where nothing is left and notifications go by index, it asks the driver to notify of the next entry. The addresses
 /// are to be set. Want of memory changes neither the queue nor the memory; the counter may have risen.

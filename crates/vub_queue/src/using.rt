@@ -35,12 +35,10 @@ fn write_behind<L: DirtyLog>(memory: &mut GuestMemory<L>, base: u64, offset: u64
     ensures regions { memory.new.guest.regions ≡ memory.old.guest.regions }
     ensures logs { MarksAll (page_marks L.byte_len L.marks) memory.old.logs (marks_of memory.old.guest.regions (base + offset) (length bytes.now)) memory.new.logs }
 {
-    match memory.locate(base, offset, bytes.len() as u64) {
-        None => {}
-        Some(at) => {
-            let _ = memory.write(at, bytes);
-        }
-    }
+    let Some(at) = memory.locate(base, offset, bytes.len() as u64) else {
+        unreachable!()
+    };
+    memory.write_covered(at, bytes);
 }
 
 /// Writes the element of the next use, and then the index word.

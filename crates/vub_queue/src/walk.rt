@@ -1,7 +1,7 @@
 ghost use Rattle.std.specs.Prelude.{◌≡◌, ◌+◌, ◌*◌, ◌<◌, ◌≤◌, ◌^◌, IfOk, IfErr, OnOk, OnErr, Some, length};
 ghost use Rattle.vub_mem.specs.Place.{bytes_at};
 ghost use Rattle.vub_queue.specs.Chain.{descriptor_at};
-ghost use Rattle.vub_queue.specs.Walk.{CostsAsWalk, CostsIfLong, Fits, Walks, fault_of};
+ghost use Rattle.vub_queue.specs.Walk.{CostsAsWalk, Fits, Walks, fault_of, reads_at};
 
 use crate::damage::Damage;
 use crate::descriptor::Descriptor;
@@ -54,7 +54,7 @@ fn next_descriptor<L: DirtyLog, K: Ledger>(
     ensures ok { IfOk result (Fits memory.now.guest (record { base = table; size = size }) read sum number) }
     ensures err { IfErr result (λ damage. fault_of memory.now.guest (record { base = table; size = size }) read sum number ≡ Some damage) }
     ensures cost { OnOk result (steps.new ≡ steps.old + 1) }
-    ensures long { IfErr result (CostsIfLong size steps.old (steps.new + read)) }
+    ensures reads { IfErr result (λ damage. steps.new + read ≡ steps.old + reads_at size read damage) }
     ensures most { OnErr result (steps.new + read ≤ steps.old + size) }
 {
     if read >= size as usize {
@@ -89,7 +89,7 @@ pub(crate) fn read_chain<L: DirtyLog, K: Ledger>(
     steps: &mut Steps<K>,
 ) -> Result<Walk, OutOfMemory>
     ensures walked { IfOk result (Walks memory.now.guest (record { base = table; size = size }) head) }
-    ensures cost { IfOk result (CostsAsWalk size steps.old steps.new) }
+    ensures cost { IfOk result (CostsAsWalk memory.now.guest (record { base = table; size = size }) head steps.old steps.new) }
     ensures most { steps.new ≤ steps.old + size }
 {
     let mut list = Vec::new(alloc);
