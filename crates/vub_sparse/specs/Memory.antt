@@ -1,6 +1,6 @@
 -- A sparse file in memory, as its calls see it.
-use Rattle.std.specs.Prelude.{◌≡◌, ◌==◌, ℕ, ◌+◌, ◌-◌, ◌^◌, min, Bool, not, ◌&&◌, ◌||◌, List, if◌then◌else◌}
-use Rattle.std.specs.List.{list_any}
+use Rattle.std.specs.Prelude.{◌≡◌, ℕ, Bool, not, ◌&&◌, List, if◌then◌else◌}
+use Rattle.vub_base.specs.Causes.{one_more, is_listed}
 use Rattle.vub_sparse.specs.Cells.{Cell}
 
 pub record MemState : Type 0 where
@@ -13,9 +13,6 @@ pub record MemState : Type 0 where
   pub failing : List ℕ
   pub stalling : List ℕ
 
-abbrev pub is_listed : List ℕ → ℕ → Bool
-is_listed list n = list_any (λ m. m == n) list
-
 -- this call fails
 abbrev pub fails : MemState → Bool
 fails s = is_listed s.failing s.calls
@@ -23,10 +20,6 @@ fails s = is_listed s.failing s.calls
 -- this call writes nothing; one on both lists fails
 abbrev pub stalls : MemState → Bool
 stalls s = not (fails s) && is_listed s.stalling s.calls
-
--- a count that stands still at its end
-abbrev pub one_more : ℕ → ℕ
-one_more n = min (n + 1) (2 ^ 64 - 1)
 
 -- one call was counted, and whether it was a fault; the lists and the position stay
 pub record Called (old new : MemState) (fault : Bool) : Type 0 where

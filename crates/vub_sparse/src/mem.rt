@@ -1,6 +1,6 @@
 ghost use Rattle.std.specs.Prelude.{◌≡◌, ◌↔◌, ◌+◌, ◌-◌, ◌<◌, ◌≤◌, ◌||◌, ◌&&◌, if◌then◌else◌, ℕ, [], true, false, length, map, take, min, nat_lt, vec_len, IfOk, IfErr, IfSome, IfNone, OnOk, OnErr, IsOk, IsErrOf};
 ghost use Rattle.vub_sparse.specs.Cells.{Byte, cell_at, is_hole, byte_of, bytes_from, written, covered, set, inside, resized};
-ghost use Rattle.vub_sparse.specs.Memory.{is_listed, fails, stalls, one_more, Called};
+ghost use Rattle.vub_sparse.specs.Memory.{fails, stalls, Called};
 ghost use Rattle.vub_sparse.specs.Refusals.{Faults};
 ghost use Rattle.vub_base.specs.Causes.{Rose};
 
