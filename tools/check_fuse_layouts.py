@@ -18,7 +18,7 @@ HEADER = "/usr/include/linux/fuse.h"
 # each structure that is written, its members in order (an array counts for each of its items), and where its
 # definition stands
 WRITTEN = {
-    "fuse_out_header": (["len", "error", "unique"], "Replies", "message"),
+    "fuse_out_header": (["len", "error", "unique"], "Replies", "header_fields"),
     "fuse_init_out": (
         ["major", "minor", "max_readahead", "flags", "max_background", "congestion_threshold", "max_write", "time_gran",
          "max_pages", "map_alignment", "flags2"] + [f"unused[{i}]" for i in range(7)],

@@ -1,9 +1,11 @@
 #!/usr/bin/env python3
-"""Compares the ioctl constants, some ioctl numbers and the error texts of vub_util with this machine's headers.
+"""Compares the numbers and texts of crates/vub_util with this machine's headers and C library.
 
-It reads the constants and the texts from the sources, lets the C compiler print what the machine's own
-<sys/ioctl.h>, <errno.h> and strerror say, and lists each difference. Where the C library's text differs, the
-table in crates/vub_util/specs/Errno.antt is what this repository keeps to.
+All that it compares is read from the crate: the constants of src/ioctl.rt; the calls of src/tests.rt on ioctl numbers,
+each with the number that its `assert_eq!` expects; the error texts of specs/Errno.antt, which src/errno.rt must repeat
+and each of whose numbers must be one of <errno.h>; and the printed errors that src/tests.rt expects. The other side is
+what a small C program prints: <asm-generic/ioctl.h>'s own macros at the same arguments, and strerror. A number that
+has no text in the table is printed as unknown, whatever strerror says of it. A difference ends it with status 1.
 """
 import os
 import re
@@ -12,96 +14,108 @@ import sys
 import tempfile
 
 TOP = os.path.join(os.path.dirname(os.path.abspath(__file__)), "..", "crates", "vub_util")
+CC = os.environ.get("CC", "cc")
 
-# ioctls that the crate's tests name: form, type, place, size, and the header's own name where it has one
-IOCTLS = [
-    ("_IO", 0xAE, 0x01, 0), ("_IO", 0xAF, 0x01, 0), ("_IO", 0x45, 0x09, 0),
-    ("_IOR", 0x54, 0xCF, 4), ("_IOR", 0x45, 0x22, 128), ("_IOW", 0x54, 0xD9, 4),
-    ("_IOWR", 0xAE, 0x02, 4), ("_IOWR", 0xAF, 0x12, 4),
-]
-DIRECTIONS = {"_IO": 0, "_IOW": 1, "_IOR": 2, "_IOWR": 3}
-ERRNO_NAMES = """EPERM ENOENT ESRCH EINTR EIO ENXIO E2BIG ENOEXEC EBADF ECHILD EAGAIN ENOMEM EACCES EFAULT EBUSY
-EEXIST EXDEV ENODEV ENOTDIR EISDIR EINVAL ENFILE EMFILE ENOTTY EFBIG ENOSPC ESPIPE EROFS EPIPE ENOBUFS""".split()
+# the header's macro for each function of src/ioctl.rt, and how it takes the arguments
+MACROS = {
+    "ioctl_expr": "_IOC({0}, {1}, {2}, {3})",
+    "ioctl_io_nr": "_IO({0}, {1})",
+    "ioctl_ior_nr": "_IOR({0}, {1}, char[{2}])",
+    "ioctl_iow_nr": "_IOW({0}, {1}, char[{2}])",
+    "ioctl_iowr_nr": "_IOWR({0}, {1}, char[{2}])",
+}
+
+
+def text_of(*parts):
+    with open(os.path.join(TOP, *parts), encoding="utf-8") as file:
+        return file.read()
 
 
 def constants():
-    """The ioctl constants of the source, by name."""
-    text = open(os.path.join(TOP, "src", "ioctl.rt")).read()
-    found = re.findall(r"pub const (\w+): u32 = ([\d_]+);", text)
+    """The constants of the source, by name."""
+    found = re.findall(r"pub const (\w+): u32 = ([\d_]+);", text_of("src", "ioctl.rt"))
     return {name: int(value.replace("_", "")) for name, value in found}
+
+
+def expected_ioctls(known):
+    """What the tests expect: the function, its arguments as numbers, and the number that it is to answer."""
+    tested = re.findall(r"assert_eq!\(rt;\s*ioctl::(\w+)\(([^()]*)\),\s*(0x[\da-f_]+|[\d_]+)\s*\);",
+                        text_of("src", "tests.rt"))
+    return [(function, [value_of(word, known) for word in arguments.split(",")], int(number.replace("_", ""), 0))
+            for function, arguments, number in tested]
+
+
+def value_of(sum_of_words, known):
+    words = [word.strip().removeprefix("ioctl::") for word in sum_of_words.split("+")]
+    return sum(known[word] if word in known else int(word.replace("_", ""), 0) for word in words)
 
 
 def texts():
     """The rows of the table of error texts, and of the source's match, by number."""
-    table = open(os.path.join(TOP, "specs", "Errno.antt")).read()
-    source = open(os.path.join(TOP, "src", "errno.rt")).read()
-    rows = {int(n): t for n, t in re.findall(r'row (\d+) \(codes "(.*?)"\)', table)}
-    arms = {int(n): t for n, t in re.findall(r'^\s*(\d+) => Some\("(.*?)"\)', source, re.M)}
-    return rows, arms
+    rows = re.findall(r'row (\d+) \(codes "(.*?)"\)', text_of("specs", "Errno.antt"))
+    arms = re.findall(r'^\s*(\d+) => Some\("(.*?)"\)', text_of("src", "errno.rt"), re.M)
+    return {int(number): text for number, text in rows}, {int(number): text for number, text in arms}
 
 
-def asked_of_c(names, numbers):
-    """What the C compiler and library of this machine say: lines 'kind key value'."""
-    lines = ["#include <stdio.h>", "#include <string.h>", "#include <errno.h>", "#include <asm-generic/ioctl.h>",
-             "int main(void) {"]
-    for name in names:
-        lines.append(f"#ifdef {name}\n  printf(\"constant {name} %lu\\n\", (unsigned long)({name}));\n#endif")
-    for form, kind, place, size in IOCTLS:
-        if form == "_IO":
-            call = f"_IO({kind}, {place})"
-        else:
-            call = f"{form}({kind}, {place}, char[{size}])"
-        lines.append(f"  printf(\"ioctl {form},{kind},{place},{size} %lu\\n\", (unsigned long)({call}));")
-    for number in numbers:
-        lines.append(f"  printf(\"text {number} %s\\n\", strerror({number}));")
-    for name in ERRNO_NAMES:
-        lines.append(f"  printf(\"errno {name} %d\\n\", {name});")
+def expected_errors():
+    """The printed errors that the tests expect, by number."""
+    found = re.findall(r'\((-?\d+), "(.*? \(os error -?\d+\))"\)', text_of("src", "tests.rt"))
+    return {int(number): text for number, text in found}
+
+
+def asked_of_c(terms, numbers):
+    """What the C compiler and library of this machine say: the value of each term, and the text of each number."""
+    lines = ["#include <stdio.h>", "#include <string.h>", "#include <asm-generic/ioctl.h>", "int main(void) {"]
+    lines += [f'  printf("%lu\\n", (unsigned long)({term}));' for term in terms]
+    lines += [f'  printf("%s\\n", strerror({number}));' for number in numbers]
     lines.append("  return 0;\n}")
     with tempfile.TemporaryDirectory() as folder:
-        source = os.path.join(folder, "ask.c")
-        program = os.path.join(folder, "ask")
-        open(source, "w").write("\n".join(lines))
-        subprocess.run([os.environ.get("CC", "cc"), "-o", program, source], check=True)
-        env = dict(os.environ, LC_ALL="C")
-        return subprocess.run([program], check=True, capture_output=True, text=True, env=env).stdout.splitlines()
+        source, program = os.path.join(folder, "ask.c"), os.path.join(folder, "ask")
+        with open(source, "w", encoding="utf-8") as file:
+            file.write("\n".join(lines))
+        subprocess.run([CC, "-o", program, source], check=True)
+        plain = dict(os.environ, LC_ALL="C")
+        printed = subprocess.run([program], check=True, capture_output=True, text=True, env=plain).stdout
+    answers = printed.splitlines()
+    return [int(answer) for answer in answers[:len(terms)]], dict(zip(numbers, answers[len(terms):]))
 
 
-def ours(form, kind, place, size):
-    return DIRECTIONS[form] << 30 | kind << 8 | place | size << 16
+def header_numbers():
+    """The numbers that <errno.h> has a name for."""
+    printed = subprocess.run([CC, "-dM", "-E", "-include", "errno.h", "-x", "c", os.devnull], check=True,
+                             capture_output=True, text=True).stdout
+    return {int(number) for number in re.findall(r"#define E\w+ (\d+)$", printed, re.M)}
+
+
+def printed_as(number, said):
+    """How an error is to be printed: by the library's text where the table has its number."""
+    return f"{said.get(number, f'Unknown error {number}')} (os error {number})"
 
 
 def main():
-    names = constants()
+    known = constants()
+    ioctls = expected_ioctls(known)
     rows, arms = texts()
-    differences = []
-    if rows != arms:
-        differences.append("the table of texts and the source's match have different rows")
-    counted = {"constant": 0, "ioctl": 0, "text": 0, "errno": 0}
-    for line in asked_of_c(names, list(rows) + [200]):
-        kind, key, value = line.split(" ", 2)
-        counted[kind] += 1
-        if kind == "constant" and int(value) != names[key]:
-            differences.append(f"{key}: {value} in the header, {names[key]} here")
-        if kind == "ioctl":
-            form, number, place, size = key.split(",")
-            mine = ours(form, int(number), int(place), int(size))
-            if int(value) != mine:
-                differences.append(f"{key}: {value} in the header, {mine} here")
-        if kind == "text":
-            mine = rows.get(int(key), f"Unknown error {key}")
-            if value != mine:
-                differences.append(f"error {key}: '{value}' of strerror, '{mine}' here")
-        if kind == "errno" and int(value) not in rows:
-            differences.append(f"{key} is {value} in the header, which has no text here")
-    print(", ".join(f"{n} {kind}s" for kind, n in counted.items()), "compared")
-    missing = len(names) - counted["constant"]
-    if missing:
-        print(f"{missing} constants are not in this machine's header")
-    for difference in differences:
+    errors = expected_errors()
+    terms = list(known) + [MACROS[function].format(*arguments) for function, arguments, _ in ioctls]
+    values, said = asked_of_c(terms, list(rows))
+    named = header_numbers()
+
+    checks = [(name, known[name], value) for name, value in zip(known, values)]
+    checks += [(f"{function} at {arguments}", number, value)
+               for (function, arguments, number), value in zip(ioctls, values[len(known):])]
+    checks += [(f"error {number} in the table", text, said[number]) for number, text in rows.items()]
+    checks += [(f"error {number} in the source", arms.get(number), rows.get(number)) for number in rows | arms]
+    checks += [(f"error {number} as printed in the tests", text, printed_as(number, said)) for number, text in errors.items()]
+    wrong = [f"{what}: {ours} in the crate, {theirs} on this machine" for what, ours, theirs in checks if ours != theirs]
+    wrong += [f"error {number}: not in <errno.h>" for number in rows if number not in named]
+    tested = {function for function, _, _ in ioctls}
+    wrong += [f"{function}: no test has its number" for function in MACROS if function not in tested]
+    for difference in wrong:
         print("differs:", difference)
-    if not differences:
-        print("no difference")
-    return 1 if differences else 0
+    print(f"{len(known)} constants, {len(ioctls)} ioctl numbers of the tests, {len(rows)} error numbers with their texts "
+          f"in the table and in the source, {len(errors)} printed errors of the tests compared, {len(wrong)} differ")
+    return 1 if wrong else 0
 
 
 if __name__ == "__main__":
