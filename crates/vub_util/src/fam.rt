@@ -72,10 +72,13 @@ pub trait FamStruct: Drop {
     fn zero_entry() -> Self::Entry
         ensures { result ≡ zero };
 
-    // a length that was put in is the one that is held, and takes the place of the last one
+    // a length that was put in is the one that is held, and takes the place of the last one; to put in the one that is
+    // held changes nothing
     ghost holds: { (h : Self) (n : ℕ) → n ≤ limit → held (holding h n) ≡ n };
 
     ghost holds_last: { (h : Self) (m n : ℕ) → holding (holding h m) n ≡ holding h n };
+
+    ghost holds_own: { (h : Self) → holding h (held h) ≡ h };
 }
 
 /// A header and the list behind it. The header's length is the list's, and at most the greatest one.
@@ -232,11 +235,12 @@ impl<T: Default + FamStruct> FamStructWrapper<T> {
         Ok(())
     }
 
-    /// Keeps the entries of which `keep` says `true`, in their order.
+    /// Keeps the entries of which `keep` says `true`, in their order. Where it keeps them all, the header stands.
     pub fn retain<P: FnMut(&T::Entry) -> bool + Drop>(&mut self, keep: P)
         requires { P.IsAlwaysCallable keep }
         ensures entries { IsFiltered (CalledAt P.FnMut) keep self.old.entries.items self.new.entries.items }
         ensures header { self.new.header ≡ T.holding self.old.header (length self.new.entries.items) }
+        ensures all { length self.new.entries.items ≡ length self.old.entries.items → self.new.header ≡ self.old.header }
     {
         self.entries.retain(keep);
         self.header.set_len(self.entries.len());

@@ -129,6 +129,8 @@ impl FamStruct for Header {
 
     ghost holds_last = { λ h m n. refl };
 
+    ghost holds_own = { λ h. refl };
+
     fn len(&self) -> usize {
         self.count as usize
     }
