@@ -1,13 +1,12 @@
 -- Lists of cells by their places.
-use Rattle.std.proofs.Common.{◌≡◌, ℕ, ◌+◌, ◌-◌, ◌<◌, ◌≤◌, ◌⊎◌, zero, suc, add-zero, zero-add, add-suc, Result, Ok, Err, IfOk, Option, Bool, true, false, List, length, map, take, replicate, max, get_or, nat_le, nat_lt, ◌&&◌, cond, refl, sym, ap, ◌∙◌, arith, inl, inr}
-use Rattle.std.specs.List.{range_with_len}
+use Rattle.std.proofs.Common.{◌≡◌, ℕ, ◌+◌, ◌-◌, ◌<◌, ◌≤◌, zero, suc, add-zero, zero-add, Result, Ok, Err, IfOk, Option, Bool, true, false, List, length, take, replicate, max, get_or, cond, refl, sym, ap, ◌∙◌, arith, inl, inr}
 use Rattle.std.proofs.lemmas.List.FromFn.{length-map-range_with_len, get_or-map-range_with_len, fill_by_all}
 use Rattle.std.proofs.lemmas.List.{get_or-take, get_or-replicate}
 use Rattle.std.proofs.lemmas.Bool.{cases_lt}
 use Rattle.std.proofs.lemmas.Grind.{common_steps}
 use Rattle.vub_base.specs.Told.{Told}
 use Rattle.vub_sparse.proofs.ToldLemmas.{told_so, told_then}
-use Rattle.vub_sparse.specs.Cells.{Cell, Hole, Byte, cell_at, tabulated, replaced_at, replaced, covered, written, zeroed, resized, inside}
+use Rattle.vub_sparse.specs.Cells.{Cell, Hole, Byte, cell_at, tabulated, replaced_at, replaced, covered, written, zeroed, inside}
 
 pub length-tabulated : (n : ℕ) (f : ℕ → Cell) → length (tabulated n f) ≡ n
 length-tabulated n f = length-map-range_with_len f 0 n

@@ -3,3 +3,4 @@ pub mod Refusals
 pub mod Seek
 pub mod Holes
 pub mod Memory
+pub mod Zeroing

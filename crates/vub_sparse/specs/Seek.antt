@@ -1,5 +1,5 @@
 -- The next hole and the next data of a file (lseek(2), SEEK_HOLE and SEEK_DATA). The end counts as a hole.
-use Rattle.std.specs.Prelude.{◌≡◌, ℕ, ◌<◌, ◌≤◌, Bool, true, false, List, length, Option, MatchOption}
+use Rattle.std.specs.Prelude.{◌≡◌, ℕ, ◌<◌, ◌≤◌, true, false, List, length, Option, MatchOption}
 use Rattle.vub_sparse.specs.Cells.{Cell, cell_at, is_hole}
 
 -- p is the first place from the offset on, up to the end, that is a hole

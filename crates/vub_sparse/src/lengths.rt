@@ -9,11 +9,12 @@ use std::alloc::Global;
 
 /// Files that can hand what was written to the medium.
 pub trait FileSync: SparseFile {
-    /// Hands what was written to the medium.
+    /// Hands what was written to the medium, as [`SparseFile::flush`] does.
     ///
     /// # Errors
     /// `Failed`, counted.
     fn fsync(&mut self) -> Result<(), FileError>
+        ensures flushes { Self.flush_gives self.old result self.new }
         ensures kept { Self.cells self.new ≡ Self.cells self.old }
         ensures stays { Self.cursor self.new ≡ Self.cursor self.old }
         ensures failed { IfErr result (λ e. e ≡ FileError.Failed) }

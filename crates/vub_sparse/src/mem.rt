@@ -1,6 +1,6 @@
 ghost use Rattle.std.specs.Prelude.{◌≡◌, ◌↔◌, ◌+◌, ◌-◌, ◌<◌, ◌≤◌, ◌||◌, ◌&&◌, if◌then◌else◌, ℕ, [], true, false, length, map, take, min, nat_lt, vec_len, IfOk, IfErr, IfSome, IfNone, OnOk, OnErr, IsOk, IsErrOf};
 ghost use Rattle.vub_sparse.specs.Cells.{Byte, cell_at, is_hole, byte_of, bytes_from, written, covered, set, inside, resized};
-ghost use Rattle.vub_sparse.specs.Memory.{fails, stalls, Called};
+ghost use Rattle.vub_sparse.specs.Memory.{fails, stalls, Called, Writes, Flushes};
 ghost use Rattle.vub_sparse.specs.Refusals.{Faults};
 ghost use Rattle.vub_base.specs.Causes.{Rose};
 
@@ -136,6 +136,10 @@ impl SparseFile for MemFile {
 
     ghost fault_count = { λ f. f.faults };
 
+    ghost write_gives = { Writes };
+
+    ghost flush_gives = { Flushes };
+
     fn len(&self) -> u64 {
         self.bytes.as_slice().len() as u64
     }
@@ -157,10 +161,8 @@ impl SparseFile for MemFile {
     fn write_at(&mut self, _alloc: Global, offset: u64, bytes: &[u8]) -> Result<usize, FileError>
         ensures ok { IfOk result (λ n. self.new.cells ≡ written offset (take n bytes.now) self.old.cells) }
         ensures err { OnErr result (self.new.cells ≡ self.old.cells) }
-        ensures whole { IfOk result (λ n. n ≡ (if stalls self.old then 0 else length bytes.now)) }
         ensures inside { fails self.old ≡ false → offset + length bytes.now ≤ length self.old.cells → IsOk result }
-        ensures fails { IsErrOf result FileError.Failed ↔ (fails self.old ≡ true) }
-        ensures called { Called self.old self.new (fails self.old || stalls self.old) }
+        ensures gives { Writes self.old offset bytes.now result self.new }
         ensures faults { Faults self.old.faults self.new.faults result }
     {
         match self.begins_write() {
@@ -230,10 +232,8 @@ impl SparseFile for MemFile {
     }
 
     fn flush(&mut self) -> Result<(), FileError>
-        ensures kept { self.new.cells ≡ self.old.cells }
+        ensures gives { Flushes self.old result self.new }
         ensures failed { IfErr result (λ e. e ≡ FileError.Failed) }
-        ensures fails { IsErrOf result FileError.Failed ↔ (fails self.old ≡ true) }
-        ensures called { Called self.old self.new (fails self.old) }
         ensures faults { Faults self.old.faults self.new.faults result }
     {
         if self.begins() {

@@ -1,8 +1,9 @@
-ghost use Rattle.std.specs.Prelude.{◌≡◌, ◌<◌, ◌≤◌, ℕ, List, Option, Ok, IfOk, IfErr, OnOk, OnErr, IfSome, length, take, vec_len, nat_lt, ◌&&◌};
+ghost use Rattle.std.specs.Prelude.{◌≡◌, ◌<◌, ◌≤◌, ℕ, List, Option, Result, Ok, IfOk, IfErr, OnOk, OnErr, IfSome, length, take, vec_len, nat_lt, ◌&&◌};
 ghost use Rattle.vub_base.specs.Causes.{Rose};
 ghost use Rattle.vub_base.specs.Told.{Told};
 ghost use Rattle.vub_sparse.specs.Cells.{Cell, cell_at, is_hole, bytes_from, written, set, resized};
 ghost use Rattle.vub_sparse.specs.Refusals.{Faults};
+ghost use Rattle.vub_sparse.specs.declared.error.FileError.{FileError};
 
 use crate::error::FileError;
 use std::alloc::Global;
@@ -18,6 +19,12 @@ pub trait SparseFile {
 
     // how many of its calls failed, or wrote nothing
     ghost fault_count: { Self → ℕ };
+
+    // what a write of this piece at this offset may answer, and the file that it leaves then
+    ghost write_gives: { Self → ℕ → List ℕ → Result ℕ FileError → Self → Type 0 };
+
+    // what a flush may answer, and the file that it leaves then
+    ghost flush_gives: { Self → Result (Unit {0}) FileError → Self → Type 0 };
 
     /// The number of cells.
     fn len(&self) -> u64
@@ -46,6 +53,7 @@ pub trait SparseFile {
         ensures err { OnErr result (cells self.new ≡ cells self.old) }
         ensures stays { cursor self.new ≡ cursor self.old }
         ensures stalled { result ≡ Ok 0 → 0 < length bytes.now → Rose (fault_count self.old) (fault_count self.new) }
+        ensures gives { write_gives self.old offset bytes.now result self.new }
         ensures faults { Faults (fault_count self.old) (fault_count self.new) result };
 
     /// Makes `len` cells from `offset` on holes, or bytes 0. With `keep_size` places past the end are left out; without
@@ -96,6 +104,7 @@ pub trait SparseFile {
     /// # Errors
     /// `Failed`, counted.
     fn flush(&mut self) -> Result<(), FileError>
+        ensures gives { flush_gives self.old result self.new }
         ensures kept { cells self.new ≡ cells self.old }
         ensures stays { cursor self.new ≡ cursor self.old }
         ensures failed { IfErr result (λ e. e ≡ FileError.Failed) }

@@ -1,8 +1,9 @@
-ghost use Rattle.std.specs.Prelude.{◌≡◌, ◌↔◌, ◌<◌, ◌≤◌, ◌+◌, ◌^◌, ℕ, nat_le, true, length, slice_index, IfOk, OnOk, OnErr, IsErrOf};
+ghost use Rattle.std.specs.Prelude.{◌≡◌, ◌↔◌, ◌<◌, ◌≤◌, ◌+◌, ◌^◌, ℕ, nat_le, true, length, slice_index, replicate, IfOk, IfErr, OnOk, OnErr, IsErrOf};
 ghost use Rattle.vub_base.specs.Causes.{Rose};
 ghost use Rattle.vub_base.specs.Told.{Told};
 ghost use Rattle.vub_sparse.specs.Cells.{zeroed};
 ghost use Rattle.vub_sparse.specs.Refusals.{greatest, FaultsUnless, FaultsOrStalls};
+ghost use Rattle.vub_sparse.specs.Zeroing.{Answers, Zeroes, ZeroesUpTo, Refuses};
 
 use crate::allocate::GREATEST;
 use crate::error::FileError;
@@ -35,6 +36,8 @@ pub trait WriteZeroesAt: SparseFile {
         ensures err { OnErr result ((n : ℕ) × (n ≤ length) × Told (Self.cells self.old) (Self.cells self.new) (λ old new. new ≡ zeroed offset n old)) }
         ensures unchanged { IsErrOf result FileError.EINVAL → Self.cells self.new ≡ Self.cells self.old }
         ensures stays { Self.cursor self.new ≡ Self.cursor self.old }
+        ensures writes { IfOk result (λ n. ZeroesUpTo Self.write_gives offset self.old length n self.new) }
+        ensures refused { IfErr result (λ e. Refuses Self.write_gives offset self.old length e self.new) }
         ensures faults { FaultsUnless (nat_le (offset + length) greatest) (Self.fault_count self.old) (Self.fault_count self.new) result };
 
     /// Writes `length` zero bytes at `offset`. The file grows where they end past its end.
@@ -52,6 +55,8 @@ pub trait WriteZeroesAt: SparseFile {
         ensures err { OnErr result ((n : ℕ) × (n ≤ length) × Told (Self.cells self.old) (Self.cells self.new) (λ old new. new ≡ zeroed offset n old)) }
         ensures unchanged { IsErrOf result FileError.EINVAL → Self.cells self.new ≡ Self.cells self.old }
         ensures stays { Self.cursor self.new ≡ Self.cursor self.old }
+        ensures writes { OnOk result (Zeroes Self.write_gives offset self.old length self.new) }
+        ensures refused { IfErr result (λ e. Refuses Self.write_gives offset self.old length e self.new) }
         ensures faults { FaultsOrStalls (nat_le (offset + length) greatest) (Self.fault_count self.old) (Self.fault_count self.new) result };
 }
 
@@ -103,6 +108,7 @@ fn write_piece<F: SparseFile>(
     ensures err { OnErr result (F.cells file.new ≡ F.cells file.old) }
     ensures stays { F.cursor file.new ≡ F.cursor file.old }
     ensures stalled { IfOk result (λ n. n ≡ 0 → Rose (F.fault_count file.old) (F.fault_count file.new)) }
+    ensures gives { Answers F.write_gives offset file.old result file.new }
     ensures faults { FaultsUnless true (F.fault_count file.old) (F.fault_count file.new) result }
 {
     let piece = zero_piece(most.min(PIECE));
@@ -114,6 +120,7 @@ fn zero_piece(count: usize) -> &'static [u8]
     requires { count ≤ 4096 }
     ensures long { length result.now ≡ count }
     ensures zeroes { (k : ℕ) → k < count → slice_index result.now k ≡ 0 }
+    ensures piece { result.now ≡ replicate count 0 }
 {
     &ZEROES[..count]
 }
@@ -133,6 +140,8 @@ pub trait WriteZeroes: SparseFile {
         ensures moved { IfOk result (λ n. Self.cursor self.new ≡ Self.cursor self.old + n) }
         ensures err { OnErr result ((n : ℕ) × (n ≤ length) × Told (Self.cells self.old) (Self.cells self.new) (λ old new. new ≡ zeroed (Self.cursor self.old) n old) × (Self.cursor self.old ≤ Self.cursor self.new) × (Self.cursor self.new ≤ Self.cursor self.old + n)) }
         ensures unchanged { IsErrOf result FileError.EINVAL → (Self.cells self.new ≡ Self.cells self.old) × (Self.cursor self.new ≡ Self.cursor self.old) }
+        ensures writes { IfOk result (λ n. (left : Self) × ZeroesUpTo Self.write_gives (Self.cursor self.old) self.old length n left) }
+        ensures refused { IfErr result (λ e. (left : Self) × Refuses Self.write_gives (Self.cursor self.old) self.old length e left) }
         ensures faults { FaultsUnless (nat_le (Self.cursor self.old + length) greatest) (Self.fault_count self.old) (Self.fault_count self.new) result };
 
     /// Writes `length` zero bytes at the position, which moves by them.
@@ -145,6 +154,8 @@ pub trait WriteZeroes: SparseFile {
         ensures moved { OnOk result (Self.cursor self.new ≡ Self.cursor self.old + length) }
         ensures err { OnErr result ((n : ℕ) × (n ≤ length) × Told (Self.cells self.old) (Self.cells self.new) (λ old new. new ≡ zeroed (Self.cursor self.old) n old) × (Self.cursor self.old ≤ Self.cursor self.new) × (Self.cursor self.new ≤ Self.cursor self.old + n)) }
         ensures unchanged { IsErrOf result FileError.EINVAL → (Self.cells self.new ≡ Self.cells self.old) × (Self.cursor self.new ≡ Self.cursor self.old) }
+        ensures writes { OnOk result ((left : Self) × Zeroes Self.write_gives (Self.cursor self.old) self.old length left) }
+        ensures refused { IfErr result (λ e. (left : Self) × Refuses Self.write_gives (Self.cursor self.old) self.old length e left) }
         ensures faults { FaultsOrStalls (nat_le (Self.cursor self.old + length) greatest) (Self.fault_count self.old) (Self.fault_count self.new) result };
 }
 

@@ -1,5 +1,3 @@
-use Rattle.std.proofs.Common.{subst, sym}
-use Rattle.vub_sparse.specs.Holes.{Marked}
 use Rattle.vub_sparse.proofs.BitLemmas.{marked_hole, marked_byte}
 use Rattle.vub_sparse.proofs.holes.mark_one.Goals as goal
 

@@ -1,4 +1,4 @@
-use Rattle.std.proofs.Common.{rules, arith, ◌≡◌, ℕ, ◌<◌, nat_eq}
+use Rattle.std.proofs.Common.{arith, ◌≡◌, ℕ, ◌<◌, nat_eq}
 use Rattle.std.specs.Int.{bit_at}
 use Rattle.vub_sparse.proofs.BitLemmas.{marked_word, all_holes, all_bytes}
 use Rattle.vub_sparse.proofs.holes.mark_words.Goals as goal

@@ -1,5 +1,5 @@
-use Rattle.std.proofs.Common.{arith, length, max, get_or}
-use Rattle.vub_sparse.specs.Cells.{Byte, blank}
+use Rattle.std.proofs.Common.{arith, length, max}
+use Rattle.vub_sparse.specs.Cells.{blank}
 use Rattle.vub_sparse.specs.Holes.{cells_of}
 use Rattle.vub_sparse.proofs.StoreLemmas.{covered_grown, length-cells_of}
 use Rattle.vub_sparse.proofs.store.set.Goals as goal

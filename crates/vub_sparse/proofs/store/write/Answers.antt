@@ -1,5 +1,5 @@
 use Rattle.std.proofs.Common.{arith, length, max, get_or}
-use Rattle.vub_sparse.specs.Cells.{Byte, blank}
+use Rattle.vub_sparse.specs.Cells.{Byte}
 use Rattle.vub_sparse.specs.Holes.{cells_of}
 use Rattle.vub_sparse.proofs.StoreLemmas.{covered_grown, length-cells_of}
 use Rattle.vub_sparse.proofs.store.write.Goals as goal

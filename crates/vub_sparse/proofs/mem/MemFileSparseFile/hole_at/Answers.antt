@@ -1,4 +1,4 @@
-use Rattle.std.proofs.Common.{◌≡◌, ap, sym, arith, rules, ◌<◌, length}
+use Rattle.std.proofs.Common.{◌≡◌, ap, sym, arith}
 use Rattle.vub_sparse.specs.Holes.{cells_of}
 use Rattle.vub_sparse.proofs.StoreLemmas.{length_told, hole_told}
 use Rattle.vub_sparse.proofs.mem.MemFileSparseFile.hole_at.Goals as goal

@@ -1,4 +1,4 @@
-use Rattle.std.proofs.Common.{◌≡◌, ◌∙◌, ap, sym, arith, rules, take, drop}
+use Rattle.std.proofs.Common.{◌≡◌, ◌∙◌, ap, sym, take, drop}
 use Rattle.vub_sparse.specs.Holes.{cells_of}
 use Rattle.vub_sparse.proofs.StoreLemmas.{read_told}
 use Rattle.vub_sparse.proofs.mem.MemFileSparseFile.read_at.Goals as goal
