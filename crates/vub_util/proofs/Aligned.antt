@@ -1,5 +1,5 @@
 -- Rounding to a multiple of a power of two.
-use Rattle.std.proofs.Common.{zero, suc, IsTrue, count_ones, rules, ◌≡◌, ℕ, ◌+◌, ◌-◌, ◌*◌, ◌/◌, ◌%◌, ◌^◌, ◌<◌, ◌≤◌, ◌⊎◌, arith, bit_and, sym, ap, ◌∙◌, inl, inr}
+use Rattle.std.proofs.Common.{zero, suc, IsTrue, count_ones, rules, ◌≡◌, ℕ, ◌+◌, ◌-◌, ◌*◌, ◌/◌, ◌%◌, ◌^◌, ◌<◌, ◌≤◌, arith, bit_and, sym, ap, ◌∙◌, inl, inr}
 use Rattle.std.specs.Int.{IsPowerOfTwo, is_power_of_two}
 use Rattle.std.proofs.lemmas.Nat.{and_mask, div-add-mod', pow_pos, mul-le, pow-add, zero_from_ones, ones_le_self}
 use Rattle.std.proofs.lemmas.Bool.{cases_lt}

@@ -1,5 +1,5 @@
 -- The text of an error whose number has none.
-use Rattle.std.proofs.Common.{◌≡◌, ℤ, ◌++◌, None, codes, append_assoc, sym, ◌∙◌, ap}
+use Rattle.std.proofs.Common.{◌≡◌, ℤ, ◌++◌, None, codes, append_assoc}
 use Rattle.std.specs.Fmt.{signed_decimal}
 use Rattle.vub_util.specs.Errno.{errno_text, error_text}
 

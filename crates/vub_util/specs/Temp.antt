@@ -5,8 +5,12 @@ use Rattle.std.specs.declared.io.ErrorKind.TheVariants.{AlreadyExists, OutOfMemo
 use Rattle.vub_util.specs.declared.temperror.TempError.{TempError}
 use Rattle.vub_util.specs.declared.temperror.TempError.TheVariants.{Taken, Os, OutOfMemory as NoMemory}
 
--- by its kind, and else by its number
+-- where a name is removed: by want of memory, and else by its number
+abbrev pub removal_refusal_of : ErrorKind → ℤ → TempError
+removal_refusal_of OutOfMemory number = NoMemory
+removal_refusal_of kind number = Os number
+
+-- where one is made: also by a name that is there already
 abbrev pub refusal_of : ErrorKind → ℤ → TempError
 refusal_of AlreadyExists number = Taken
-refusal_of OutOfMemory number = NoMemory
-refusal_of kind number = Os number
+refusal_of kind number = removal_refusal_of kind number

@@ -1,7 +1,7 @@
 //! Temporary directories over the files of the system.
-ghost use Rattle.std.specs.Prelude.{◌≡◌, ◌++◌, ◌∷◌, [], IfOk, string_bytes};
+ghost use Rattle.std.specs.Prelude.{◌≡◌, ◌≢◌, ◌++◌, ◌∷◌, [], IfOk, IfErr, string_bytes};
 
-use crate::temperror::TempError;
+use crate::temperror::{TempError, removed};
 use std::alloc::Global;
 use std::fs;
 use std::rt::Files;
@@ -74,21 +74,22 @@ impl TempDir {
     /// Removes the directory and all that is inside.
     ///
     /// # Errors
-    /// The system's number; want of memory.
+    /// The system's number; want of memory. Never `Taken`.
     pub fn remove<R: Files>(&mut self, rt: &R, alloc: Global) -> Result<(), TempError>
-        ensures { self.new ≡ self.old }
+        ensures kept { self.new ≡ self.old }
+        ensures refused { IfErr result (λ e. e ≢ TempError.Taken) }
     {
-        rt.remove_dir_all(alloc, self.path.as_str())?;
-        Ok(())
+        removed(rt.remove_dir_all(alloc, self.path.as_str()))
     }
 
     /// Removes the directory and all that is inside.
     ///
     /// # Errors
-    /// The system's number; want of memory.
-    pub fn close<R: Files>(self, rt: &R, alloc: Global) -> Result<(), TempError> {
+    /// The system's number; want of memory. Never `Taken`.
+    pub fn close<R: Files>(self, rt: &R, alloc: Global) -> Result<(), TempError>
+        ensures { IfErr result (λ e. e ≢ TempError.Taken) }
+    {
         let TempDir { path } = self;
-        rt.remove_dir_all(alloc, path.as_str())?;
-        Ok(())
+        removed(rt.remove_dir_all(alloc, path.as_str()))
     }
 }

@@ -1,7 +1,7 @@
 //! Temporary files over the files of the system.
-ghost use Rattle.std.specs.Prelude.{◌≡◌, ◌++◌, ◌∷◌, [], IfOk, string_bytes};
+ghost use Rattle.std.specs.Prelude.{◌≡◌, ◌≢◌, ◌++◌, ◌∷◌, [], IfOk, IfErr, string_bytes};
 
-use crate::temperror::TempError;
+use crate::temperror::{TempError, removed};
 use std::alloc::Global;
 use std::fs::{self, File};
 use std::rt::Files;
@@ -91,21 +91,22 @@ impl<F: Drop> TempFile<F> {
     /// Removes the file's name.
     ///
     /// # Errors
-    /// The system's number.
+    /// The system's number; want of memory. Never `Taken`.
     pub fn remove<R: Files<File = F>>(&mut self, rt: &R) -> Result<(), TempError>
-        ensures { self.new ≡ self.old }
+        ensures kept { self.new ≡ self.old }
+        ensures refused { IfErr result (λ e. e ≢ TempError.Taken) }
     {
-        fs::remove_file(rt, self.path.as_str())?;
-        Ok(())
+        removed(fs::remove_file(rt, self.path.as_str()))
     }
 
     /// Closes the file and removes its name.
     ///
     /// # Errors
-    /// The system's number.
-    pub fn close<R: Files<File = F>>(self, rt: &R) -> Result<(), TempError> {
+    /// The system's number; want of memory. Never `Taken`.
+    pub fn close<R: Files<File = F>>(self, rt: &R) -> Result<(), TempError>
+        ensures { IfErr result (λ e. e ≢ TempError.Taken) }
+    {
         let TempFile { path, file: _ } = self;
-        fs::remove_file(rt, path.as_str())?;
-        Ok(())
+        removed(fs::remove_file(rt, path.as_str()))
     }
 }
