@@ -1,14 +1,14 @@
 -- What a write does to a sink in memory.
 use Rattle.std.specs.Prelude.{◌≡◌, ℕ, ◌-◌, min, length, nat_eq, nat_lt, if◌then◌else◌, Result, Ok, Err}
+use Rattle.vub_base.specs.Causes.{is_listed, one_more}
 use Rattle.vub_stream.specs.declared.mem_sink.MemSink.{MemSink}
 use Rattle.vub_stream.specs.declared.sink.SinkError.{SinkError}
 use Rattle.vub_stream.specs.declared.sink.SinkError.TheVariants.{Failed}
-use Rattle.vub_stream.specs.SourceInMemory.{is_listed, one_more}
 
 -- how many bytes of a piece of this length go in: none at a call that is to take none, else the least of the length,
 -- of the greatest piece and of the room that is left
 abbrev pub room_for : MemSink → ℕ → ℕ
-room_for s n = if is_listed s.calls s.stalling.items then 0 else min (min n s.piece) (s.room - length s.bytes.items)
+room_for s n = if is_listed s.stalling.items s.calls then 0 else min (min n s.piece) (s.room - length s.bytes.items)
 
 -- the count of faults after a write of a piece of this length that answered this: a fault is a failed write, and one
 -- that takes none of some bytes

@@ -1,6 +1,6 @@
 -- What a source in memory holds, and what a read does to its counts.
-use Rattle.std.specs.Prelude.{◌≡◌, ℕ, ◌+◌, ◌-◌, ◌^◌, min, List, drop, Bool, nat_eq, Result, Ok, Err}
-use Rattle.std.specs.List.{list_any}
+use Rattle.std.specs.Prelude.{◌≡◌, ℕ, List, drop, Result, Ok, Err}
+use Rattle.vub_base.specs.Causes.{one_more}
 use Rattle.vub_stream.specs.declared.mem_source.MemSource.{MemSource}
 use Rattle.vub_stream.specs.declared.source.SourceError.{SourceError}
 use Rattle.vub_stream.specs.declared.source.SourceError.TheVariants.{Failed, OutOfMemory}
@@ -8,14 +8,6 @@ use Rattle.vub_stream.specs.declared.source.SourceError.TheVariants.{Failed, Out
 -- the bytes that are left
 abbrev pub unread : MemSource → List ℕ
 unread s = drop s.at s.bytes.items
-
--- whether this call is on the list
-abbrev pub is_listed : ℕ → List ℕ → Bool
-is_listed call list = list_any (λ n. nat_eq n call) list
-
--- a count that stays at 2^64 - 1
-abbrev pub one_more : ℕ → ℕ
-one_more n = min (n + 1) (2 ^ 64 - 1)
 
 -- the count of faults after a read that answered this
 abbrev pub faults_after : ℕ → Result (List ℕ) SourceError → ℕ

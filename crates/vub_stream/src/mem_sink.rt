@@ -72,9 +72,8 @@ impl Sink for MemSink {
     ghost use Rattle.std.specs.Prelude.{◌≡◌, length, Some, Ok, Err, IfOk, IsTrue};
     ghost use Rattle.std.specs.Io.{WritesAtMost};
     ghost use Rattle.std.specs.Io.KnownBytes.{WriteAppends};
-    ghost use Rattle.vub_base.specs.Causes.{HasCause, Rose};
+    ghost use Rattle.vub_base.specs.Causes.{is_listed, HasCause, Rose};
     ghost use Rattle.vub_stream.specs.SinkInMemory.{room_for, AfterWrite};
-    ghost use Rattle.vub_stream.specs.SourceInMemory.{is_listed};
 
     ghost taken = { λ s. Some s.bytes.items };
 
@@ -91,8 +90,8 @@ impl Sink for MemSink {
         ensures cause { HasCause self.old.faults self.new.faults result SinkError.Failed }
         ensures stalled { result ≡ Ok 0 → 0 < length bytes.now → Rose self.old.faults self.new.faults }
         ensures takes { IfOk result (λ count. count ≡ room_for self.old (length bytes.now)) }
-        ensures fails { IsTrue (is_listed self.old.calls self.old.failing.items) → result ≡ Err SinkError.Failed }
-        ensures only { result ≡ Err SinkError.Failed → IsTrue (is_listed self.old.calls self.old.failing.items) }
+        ensures fails { IsTrue (is_listed self.old.failing.items self.old.calls) → result ≡ Err SinkError.Failed }
+        ensures only { result ≡ Err SinkError.Failed → IsTrue (is_listed self.old.failing.items self.old.calls) }
         ensures after { AfterWrite self.old self.new (length bytes.now) result }
     {
         let call = self.calls;

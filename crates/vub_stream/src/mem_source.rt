@@ -51,9 +51,9 @@ impl MemSource {
 
 impl Source for MemSource {
     ghost use Rattle.std.specs.Prelude.{◌≡◌, [], true, take, min, Some, Err, IfOk, IsTrue};
-    ghost use Rattle.vub_base.specs.Causes.{HasCause};
+    ghost use Rattle.vub_base.specs.Causes.{is_listed, HasCause};
     ghost use Rattle.vub_stream.specs.Told.{ReadGives};
-    ghost use Rattle.vub_stream.specs.SourceInMemory.{is_listed, unread, AfterRead};
+    ghost use Rattle.vub_stream.specs.SourceInMemory.{unread, AfterRead};
 
     ghost left = { λ s. Some (unread s) };
 
@@ -73,8 +73,8 @@ impl Source for MemSource {
         ensures still_ended { self.old.ended ≡ true → self.new.ended ≡ true }
         ensures cause { HasCause self.old.faults self.new.faults result SourceError.Failed }
         ensures gives { IfOk result (λ bytes. bytes ≡ take (min most self.old.piece) (unread self.old)) }
-        ensures fails { IsTrue (is_listed self.old.calls self.old.failing.items) → result ≡ Err SourceError.Failed }
-        ensures only { result ≡ Err SourceError.Failed → IsTrue (is_listed self.old.calls self.old.failing.items) }
+        ensures fails { IsTrue (is_listed self.old.failing.items self.old.calls) → result ≡ Err SourceError.Failed }
+        ensures only { result ≡ Err SourceError.Failed → IsTrue (is_listed self.old.failing.items self.old.calls) }
         ensures after { AfterRead self.old self.new result }
     {
         let call = self.calls;
