@@ -1,6 +1,6 @@
 ghost use Rattle.std.specs.Prelude.{IfOk};
 ghost use Rattle.vub_base.specs.Causes.{HasCause};
-ghost use Rattle.vub_stream.specs.Whole.{IsWholeInput, IsLongInput};
+ghost use Rattle.vub_stream.specs.Whole.{IsWholeInput, IsLongInput, TakesInput};
 
 use crate::source::{Source, SourceError};
 use std::alloc::Global;
@@ -24,10 +24,12 @@ pub enum Input {
 /// Reads a source to its end, but no further than one byte past [`LIMIT`]: where so many come, a later fault is not met.
 ///
 /// # Errors
-/// [`SourceError::Failed`] only where the source's count of faults rose; want of memory.
+/// [`SourceError::Failed`] only where the source's count of faults rose, and then no byte past [`LIMIT`] was taken; want
+/// of memory.
 pub fn read_input<S: Source>(alloc: Global, source: &mut S) -> Result<Input, SourceError>
     ensures whole { IfOk result (IsWholeInput (S.left source.old) (S.ended source.new)) }
     ensures long { IfOk result (IsLongInput (S.left source.old)) }
+    ensures takes { TakesInput (S.left source.old) (S.left source.new) result }
     ensures cause { HasCause (S.fault_count source.old) (S.fault_count source.new) result SourceError.Failed }
 {
     let mut found: Vec<u8> = Vec::new(alloc);
