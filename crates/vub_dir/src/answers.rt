@@ -1,8 +1,10 @@
 //! The answers to the requests, opcode by opcode: each a reply's body or the number of an error, as it fits the room.
-ghost use Rattle.std.specs.Prelude.{◌≡◌, ◌+◌, ◌≤◌, ◌<◌, ◌==◌, nat_lt, Some, None, length, IfOk, IfSome, IfNone, IsTrue};
+ghost use Rattle.std.specs.Prelude.{◌≡◌, ◌+◌, ◌≤◌, ◌<◌, ◌==◌, ◌++◌, nat_lt, Some, None, Ok, length, IfOk, IfSome, IfNone, IsTrue};
 ghost use Rattle.std.specs.List.{position};
 ghost use Rattle.std.specs.Option.{option_copied};
+ghost use Rattle.vub_dir.specs.Attributes.{attribute_fields};
 ghost use Rattle.vub_dir.specs.Directory.{init_fields, init_of, entry_at, entry_of, lookup_of, attributes_at, getattr_of, open_of, read_of, size_refusal, write_refusal, write_of, readdir_of, answer_of, succeeds, data_in, offset_in, size_in};
+ghost use Rattle.vub_dir.specs.Layout.{fields_bytes};
 ghost use Rattle.vub_dir.specs.Replies.{fitted};
 ghost use Rattle.vub_dir.specs.Requests.{name_in};
 
@@ -11,7 +13,7 @@ use crate::fuse::{
     FUSE_INIT, FUSE_KERNEL_MINOR_VERSION, FUSE_KERNEL_VERSION, FUSE_LOOKUP, FUSE_OPEN, FUSE_READ,
     FUSE_READDIR, FUSE_WRITE, GREATEST_FILE, GREATEST_WRITE,
 };
-use crate::layout::{Field, bytes_after, put_fields, u32_in, u64_in};
+use crate::layout::{Field, bytes_after, u32_in, u64_in};
 use crate::listing::put_entries;
 use crate::names::Names;
 use crate::node::Node;
@@ -55,9 +57,7 @@ fn init(alloc: Global, slot: Slot, body: &[u8]) -> Result<Bytes, OutOfMemory>
     if u32_in(body, 0) != FUSE_KERNEL_VERSION {
         return slot.refuse(alloc, EPROTO);
     }
-    let mut out = Vec::new(alloc);
-    put_fields(&mut out, &init_reply(u32_in(body, 8)))?;
-    slot.succeed(alloc, &out)
+    slot.succeed_fields(alloc, &init_reply(u32_in(body, 8)))
 }
 
 /// The fields of the reply to INIT (`struct fuse_init_out`).
@@ -141,6 +141,21 @@ fn entry(
     }
 }
 
+/// The fields of `head` and then the attributes of a node, `size` bytes in all.
+fn with_attributes(
+    alloc: Global,
+    slot: Slot,
+    size: u32,
+    head: &[Field],
+    number: u64,
+    node: &Node<Names>,
+) -> Result<Bytes, OutOfMemory>
+    requires { size ≡ length (fields_bytes head.now ++ fields_bytes (attribute_fields number node.now)) }
+    ensures { IfOk result (λ reply. reply ≡ fitted slot.room slot.unique (Ok (fields_bytes head.now ++ fields_bytes (attribute_fields number node.now)))) }
+{
+    slot.succeed_with(alloc, size, head, &node.attributes(number))
+}
+
 #[tactic(auto, unfolding(crate::specs::Layout::fields_bytes, crate::specs::Attributes::attribute_fields))]
 fn entry_of(
     alloc: Global,
@@ -158,12 +173,7 @@ fn entry_of(
         Field::U32(0),
         Field::U32(0),
     ];
-    slot.succeed_with(
-        alloc,
-        FUSE_ENTRY_OUT_SIZE,
-        &fields,
-        &node.attributes(number),
-    )
+    with_attributes(alloc, slot, FUSE_ENTRY_OUT_SIZE, &fields, number, node)
 }
 
 /// GETATTR: the attributes of a node (`struct fuse_attr_out`).
@@ -187,7 +197,7 @@ fn attributes(
     ensures { IfOk result (λ reply. reply ≡ fitted slot.room slot.unique (attributes_at number (Some node.now))) }
 {
     let fields = [Field::U64(0), Field::U32(0), Field::U32(0)];
-    slot.succeed_with(alloc, FUSE_ATTR_OUT_SIZE, &fields, &node.attributes(number))
+    with_attributes(alloc, slot, FUSE_ATTR_OUT_SIZE, &fields, number, node)
 }
 
 /// OPEN: the handle of a file is its node (`struct fuse_open_out`).
@@ -206,14 +216,7 @@ fn open_file(
     }
     match tree.file(number) {
         Err(errno) => slot.refuse(alloc, errno),
-        Ok(_) => {
-            let mut out = Vec::new(alloc);
-            put_fields(
-                &mut out,
-                &[Field::U64(number), Field::U32(0), Field::U32(0)],
-            )?;
-            slot.succeed(alloc, &out)
-        }
+        Ok(_) => slot.succeed_fields(alloc, &[Field::U64(number), Field::U32(0), Field::U32(0)]),
     }
 }
 
@@ -307,11 +310,7 @@ fn write(
 {
     match refusal_of_write(tree, number, body) {
         Some(errno) => slot.refuse(alloc, errno),
-        None => {
-            let mut out = Vec::new(alloc);
-            put_fields(&mut out, &[Field::U32(u32_in(body, 16)), Field::U32(0)])?;
-            slot.succeed(alloc, &out)
-        }
+        None => slot.succeed_fields(alloc, &[Field::U32(u32_in(body, 16)), Field::U32(0)]),
     }
 }
 

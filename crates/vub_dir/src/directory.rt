@@ -1,4 +1,4 @@
-ghost use Rattle.std.specs.Prelude.{◌≡◌, ◌≤◌, length, IfOk, IsTrue, OnOk, OnErr};
+ghost use Rattle.std.specs.Prelude.{◌≡◌, ◌≤◌, length, IfOk, IsOkAnd, IsTrue, OnOk, OnErr};
 ghost use Rattle.vub_dir.specs.Directory.{next_tree, reply_of, is_write};
 
 use crate::answers::{answer, write_succeeds};
@@ -29,12 +29,12 @@ impl Model for DirService {
 }
 
 impl DirService {
-    /// The service of this tree. Takes no memory.
+    /// The service of this tree.
     ///
     /// # Errors
-    /// None today; the answer leaves room for want of memory.
+    /// None: it takes no memory.
     pub fn new(_alloc: Global, tree: Tree) -> Result<DirService, OutOfMemory>
-        ensures { IfOk result (λ service. service ≡ tree) }
+        ensures { IsOkAnd result (λ service. service ≡ tree) }
     {
         Ok(DirService { tree })
     }

@@ -27,7 +27,20 @@ impl Slot {
         }
     }
 
-    /// The reply whose body is the bytes of these fields, `size` in all, or the error EIO where it does not fit.
+    /// The reply whose body is the bytes of these fields, or the error EIO where it does not fit.
+    pub(crate) fn succeed_fields(
+        self,
+        alloc: Global,
+        fields: &[Field],
+    ) -> Result<Bytes, OutOfMemory>
+        ensures { IfOk result (λ reply. reply ≡ fitted self.room self.unique (Ok (fields_bytes fields.now))) }
+    {
+        let mut body = Vec::new(alloc);
+        put_fields(&mut body, fields)?;
+        self.succeed(alloc, &body)
+    }
+
+    /// The reply whose body is the bytes of the fields of `head` and then of `tail`, `size` in all, or the error EIO where it does not fit.
     #[tactic(auto, unfolding(crate::specs::Replies::fitted, crate::specs::Replies::message))]
     pub(crate) fn succeed_with(
         self,
