@@ -2,13 +2,14 @@
 use Rattle.std.proofs.Common.{◌≡◌, ℕ, zero, suc, ◌+◌, ◌-◌, ◌<◌, ◌≤◌, List, [], ◌∷◌, ◌++◌, length, drop, get_or, Bool, true, false, Some, None, refl, sym, ap, ◌∙◌, append_assoc, add-one, arith, if◌then◌else◌}
 use Rattle.std.proofs.Math.Seq.{drop-cons}
 use Rattle.std.proofs.Math.ListN.{drop_of_length-le}
+use Rattle.std.specs.List.{repeat}
 use Rattle.std.specs.Str.{IsUtf8, is_utf8}
 use Rattle.std.proofs.lemmas.Str.{is_utf8-from_IsUtf8, IsUtf8-from_is_utf8}
 use Rattle.serde_json.specs.Data.{Data}
 use Rattle.serde_json.specs.Read.{read}
 use Rattle.vub_script.specs.Reading.{◌>>=◌}
 use Rattle.vub_script.specs.Draft.{draft_of_tree}
-use Rattle.vub_script.specs.Script.{read_draft, repeated}
+use Rattle.vub_script.specs.Script.{read_draft}
 
 pub reads_some : (bytes : List ℕ) (d : Data) → IsUtf8 bytes → read bytes ≡ Some d → read_draft bytes ≡ draft_of_tree d
 unfolding read_draft
@@ -22,14 +23,14 @@ pub reads_none : (bytes : List ℕ) → (IsUtf8 bytes → read bytes ≡ None) �
 unfolding read_draft
 reads_none bytes h = reads_none_at bytes (is_utf8 bytes) refl h
 
-repeated_next : (n : ℕ) (turns : List ℕ) → 0 < n → repeated n turns ≡ turns ++ repeated (n - 1) turns
-repeated_next zero turns h = absurd (omega arith)
-repeated_next (suc n) turns h = ap (λ k. turns ++ repeated k turns) (omega arith)
+repeat_next : (n : ℕ) (turns : List ℕ) → 0 < n → repeat n turns ≡ turns ++ repeat (n - 1) turns
+repeat_next zero turns h = absurd (omega arith)
+repeat_next (suc n) turns h = ap (λ k. turns ++ repeat k turns) (omega arith)
 
 -- one more round stands after those before it
 pub one_round : (front longer whole turns : List ℕ) (i n : ℕ) → i < n → longer ≡ front ++ turns
-    → front ++ repeated (n - i) turns ≡ whole → longer ++ repeated (n - (i + 1)) turns ≡ whole
+    → front ++ repeat (n - i) turns ≡ whole → longer ++ repeat (n - (i + 1)) turns ≡ whole
 one_round front longer whole turns i n h is so_far =
     let last : n - i - 1 ≡ n - (i + 1) = omega arith in
-    let round : repeated (n - i) turns ≡ turns ++ repeated (n - (i + 1)) turns = repeated_next (n - i) turns (omega arith) ∙ ap (λ k. turns ++ repeated k turns) last in
-    ap (λ l. l ++ repeated (n - (i + 1)) turns) is ∙ append_assoc front turns (repeated (n - (i + 1)) turns) ∙ ap (λ l. front ++ l) (sym round) ∙ so_far
+    let round : repeat (n - i) turns ≡ turns ++ repeat (n - (i + 1)) turns = repeat_next (n - i) turns (omega arith) ∙ ap (λ k. turns ++ repeat k turns) last in
+    ap (λ l. l ++ repeat (n - (i + 1)) turns) is ∙ append_assoc front turns (repeat (n - (i + 1)) turns) ∙ ap (λ l. front ++ l) (sym round) ∙ so_far

@@ -1,6 +1,6 @@
 -- From bytes to a script: the draft that a text is, the limits on drafts, and the script that a draft is written out to.
-use Rattle.std.specs.Prelude.{ℕ, zero, suc, ◌+◌, ◌*◌, ◌&&◌, nat_le, Bool, if◌then◌else◌, List, [], ◌∷◌, ◌++◌, length, map, replicate, Option, None, option_map}
-use Rattle.std.specs.List.{range_with_len}
+use Rattle.std.specs.Prelude.{ℕ, ◌+◌, ◌*◌, ◌&&◌, nat_le, Bool, if◌then◌else◌, List, [], ◌∷◌, ◌++◌, length, map, replicate, Option, None}
+use Rattle.std.specs.List.{range_with_len, repeat}
 use Rattle.std.specs.Str.{is_utf8}
 use Rattle.serde_json.specs.Read.{read}
 use Rattle.vub_model.specs.declared.setup.Object.{Object}
@@ -50,17 +50,10 @@ object_from (draft.Content bytes) = Content bytes
 abbrev pub parties : ℕ → List ℕ
 parties workers = range_with_len 0 (workers + 2)
 
-abbrev pub repeated : ℕ → List ℕ → List ℕ
-repeated zero turns = []
-repeated (suc n) turns = turns ++ repeated n turns
-
 unfoldable pub script_from : Draft → Script
 script_from d = record {
   setup = record { objects = map object_from d.objects; regions = d.regions; rings = d.rings; guest = d.guest };
   device = d.device;
   service = d.service;
-  schedule = d.listed ++ repeated d.rounds (parties (length d.device.masks));
+  schedule = d.listed ++ repeat d.rounds (parties (length d.device.masks));
 }
-
-unfoldable pub read_script : List ℕ → Option Script
-read_script bytes = option_map script_from (read_draft bytes)

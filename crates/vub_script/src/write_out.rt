@@ -1,5 +1,6 @@
 ghost use Rattle.std.specs.Prelude.{◌≡◌, ◌++◌, map, length, IfOk, OnOk};
-ghost use Rattle.vub_script.specs.Script.{object_from, parties, repeated, script_from};
+ghost use Rattle.std.specs.List.{repeat};
+ghost use Rattle.vub_script.specs.Script.{object_from, parties, script_from};
 
 use crate::draft::{Draft, ObjectDraft};
 use crate::script::Script;
@@ -47,7 +48,7 @@ fn parties_of(alloc: Global, workers: usize) -> Result<Vec<u32>, OutOfMemory>
 }
 
 fn push_rounds(schedule: &mut Vec<u32>, turns: &[u32], rounds: u64) -> Result<(), OutOfMemory>
-    ensures { OnOk result (schedule.new.items ≡ schedule.old.items ++ repeated rounds turns.now) }
+    ensures { OnOk result (schedule.new.items ≡ schedule.old.items ++ repeat rounds turns.now) }
 {
     for _ in 0..rounds {
         schedule.extend_from_slice(turns)?;
