@@ -1,7 +1,8 @@
 -- A number of a script: a JSON whole number from 0 to 2^64 - 1, or a text of `0x` and 1 to 16 lower-case hexadecimal
 -- digits. (A JSON number with a point or an exponent, as 1.0, is none, and -0 is none.)
-use Rattle.std.specs.Prelude.{ℕ, ◌+◌, ◌*◌, ◌-◌, ◌^◌, ◌&&◌, ◌||◌, ◌==◌, nat_lt, nat_le, Bool, if◌then◌else◌, List, [], ◌∷◌, length, drop, slice_index, Option, Some, None}
+use Rattle.std.specs.Prelude.{ℕ, ◌^◌, ◌&&◌, ◌||◌, ◌==◌, nat_lt, nat_le, Bool, if◌then◌else◌, List, length, drop, slice_index, Option, Some, None}
 use Rattle.std.specs.List.{list_all}
+use Rattle.std.specs.Str.Parse.{digits_value}
 use Rattle.serde_json.specs.Data.{Data, null, boolean, number, string, array, object}
 use Rattle.serde_json.specs.Find.{as_u64}
 use Rattle.vub_script.specs.Reading.{◌>>=◌}
@@ -10,21 +11,13 @@ use Rattle.vub_script.specs.Reading.{◌>>=◌}
 abbrev pub is_lower_hex : ℕ → Bool
 is_lower_hex c = (nat_le 48 c && nat_le c 57) || (nat_le 97 c && nat_le c 102)
 
-abbrev pub hex_digit : ℕ → ℕ
-hex_digit c = if nat_le c 57 then c - 48 else c - 87
-
--- the digits' value, after digits of value front
-abbrev pub hex_value : ℕ → List ℕ → ℕ
-hex_value front [] = front
-hex_value front (c ∷ cs) = hex_value (front * 16 + hex_digit c) cs
-
 -- `0x` and 1 to 16 digits
 abbrev pub is_hex_number : List ℕ → Bool
 is_hex_number s =
     nat_le 3 (length s) && nat_le (length s) 18 && (slice_index s 0 == 48) && (slice_index s 1 == 120) && list_all is_lower_hex (drop 2 s)
 
 unfoldable pub hex_number : List ℕ → Option ℕ
-hex_number s = if is_hex_number s then Some (hex_value 0 (drop 2 s)) else None
+hex_number s = if is_hex_number s then Some (digits_value 16 (drop 2 s)) else None
 
 abbrev pub number_of : Data → Option ℕ
 number_of null = None

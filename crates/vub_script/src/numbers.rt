@@ -1,7 +1,7 @@
-ghost use Rattle.std.specs.Prelude.{◌≡◌, ◌<◌, length, true};
+ghost use Rattle.std.specs.Prelude.{◌≡◌};
 ghost use Rattle.std.specs.List.{list_all};
 ghost use Rattle.vub_script.specs.Reading.{Gives};
-ghost use Rattle.vub_script.specs.Numbers.{is_lower_hex, hex_digit, hex_value, is_hex_number, hex_number, number_of, u32_of, u16_of};
+ghost use Rattle.vub_script.specs.Numbers.{is_lower_hex, is_hex_number, hex_number, number_of, u32_of, u16_of};
 
 use crate::refusal::Refusal;
 use crate::tree::FromTree;
@@ -22,18 +22,6 @@ pub fn are_lower_hex(bytes: &[u8]) -> bool
     bytes.iter().all(|byte| is_lower_hex_digit(*byte))
 }
 
-fn digit_value(byte: u8) -> u64
-    requires { is_lower_hex byte ≡ true }
-    ensures value { result ≡ hex_digit byte }
-    ensures small { result < 16 }
-{
-    if byte <= 57 {
-        u64::from(byte - 48)
-    } else {
-        u64::from(byte - 87)
-    }
-}
-
 /// Whether the text is `0x` and 1 to 16 digits.
 fn is_number_in_hex(text: &[u8]) -> bool
     ensures { result ≡ is_hex_number text.now }
@@ -45,27 +33,17 @@ fn is_number_in_hex(text: &[u8]) -> bool
         && are_lower_hex(&text[2..])
 }
 
-#[tactic(auto, using(crate::proofs::Digits::at_index, crate::proofs::Digits::digit_fits, crate::proofs::Digits::value_step, crate::proofs::Digits::value_bound))]
-fn value_of_digits(digits: &[u8]) -> u64
-    requires digits { list_all is_lower_hex digits.now ≡ true }
-    requires short { length digits.now < 17 }
-    ensures { result ≡ hex_value 0 digits.now }
-{
-    let mut value: u64 = 0;
-    for byte in digits {
-        value = value * 16 + digit_value(*byte);
-    }
-    value
-}
-
+/// The number that the text is, if it is `0x` and 1 to 16 digits.
 #[tactic(auto, unfolding(crate::specs::Numbers::hex_number))]
-fn number_in_hex(text: &[u8]) -> Result<u64, Refusal>
+fn number_in_hex(text: &str) -> Result<u64, Refusal>
     ensures { Gives result (hex_number text.now) }
 {
-    if is_number_in_hex(text) {
-        Ok(value_of_digits(&text[2..]))
-    } else {
-        Err(Refusal::NoScript)
+    if !is_number_in_hex(text.as_bytes()) {
+        return Err(Refusal::NoScript);
+    }
+    match u64::from_str_radix(&text[2..], 16) {
+        Ok(number) => Ok(number),
+        Err(_) => Err(Refusal::NoScript),
     }
 }
 
@@ -75,7 +53,7 @@ impl FromTree for u64 {
     fn from_tree(_alloc: Global, value: &Value) -> Result<u64, Refusal> {
         match value {
             Value::Number(number) => number.as_u64().ok_or(Refusal::NoScript),
-            Value::String(text) => number_in_hex(text.as_bytes()),
+            Value::String(text) => number_in_hex(text),
             _ => Err(Refusal::NoScript),
         }
     }
