@@ -7,7 +7,7 @@ pub use Rattle.vub_event.specs.InterestList
 pub use Rattle.vub_event.specs.Laws
 pub mod Calls
 pub mod Flags
-pub mod Lends
 pub mod Messages
 pub mod PollEvents
 pub mod Timer
+pub mod Waits

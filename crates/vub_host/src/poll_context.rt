@@ -1,5 +1,4 @@
-ghost use Rattle.std.specs.Prelude.{◌≡◌, ◌∷◌, [], ◌==◌, ◌/◌, ◌^◌, ◌-◌, ◌+◌, if◌then◌else◌, min, pos, negsuc, true, is_ok, IfOk, OnErr, ⊤};
-ghost use Rattle.std.specs.Borrow.{sem, follows_so};
+ghost use Rattle.std.specs.Prelude.{◌≡◌, ◌∷◌, [], ◌==◌, ◌/◌, ◌^◌, ◌-◌, ◌+◌, if◌then◌else◌, min, pos, negsuc, true, is_ok, IfOk, OnErr};
 ghost use Rattle.std.specs.Duration.{as_nanos};
 ghost use Rattle.std.specs.Int.RustNames.{bit_or};
 ghost use Rattle.vub_base.specs.Told.{Told};
@@ -7,7 +6,6 @@ ghost use Rattle.vub_event.specs.Errors.{RefusesBy};
 ghost use Rattle.vub_event.specs.Faults.{CountsFaults};
 ghost use Rattle.vub_event.specs.HostCalls.{AddCall, ModifyCall, DeleteCall, member_for};
 ghost use Rattle.vub_host.specs.Calls.{MakesList, PollCall};
-ghost use mathlib.Core.Option.{none};
 
 use crate::poll_events::{EpollEvents, PollEvents};
 use crate::poll_token::PollToken;
@@ -83,6 +81,8 @@ pub struct EpollContext<T> {
 }
 
 impl<T: PollToken> EpollContext<T> {
+    ghost use Rattle.vub_host.specs.Waits.{events_after_wait};
+
     /// A new context with no member.
     ///
     /// # Errors
@@ -173,38 +173,22 @@ impl<T: PollToken> EpollContext<T> {
         host.delete(self.list, object)
     }
 
-    /// Fills `events` with those of the first ready members by object number, at most 16.
-    fn fill<H: Host>(
+    /// The events of the first ready members by object number, at most 16, which then stand in `events` too. It doesn't wait.
+    ///
+    /// # Errors
+    /// As [`Host::ready_many`]; then `events` stays.
+    pub fn wait<H: Host>(
         &self,
         alloc: Global,
         host: &mut H,
         events: &mut EpollEvents,
-    ) -> Result<(), HostError>
+    ) -> Result<PollEvents<T>, HostError>
         ensures faults { CountsFaults (H.fault_count host.old) (H.fault_count host.new) (H.never_fails host.old) (H.never_fails host.new) result }
         ensures refusals { RefusesBy result (HostError.Failed ∷ HostError.EBADF ∷ HostError.OutOfMemory ∷ []) }
-        ensures err { OnErr result (events.new ≡ events.old) }
-        ensures table { Told (H.held host.old) (H.held host.new) (PollCall (λ _. events.new) self.now.list result) }
+        ensures after { events.new ≡ events_after_wait result events.old }
+        ensures table { Told (H.held host.old) (H.held host.new) (PollCall (λ polled. polled.events) self.now.list result) }
     {
-        let ready = host.ready_many(alloc, self.list, 16)?;
-        events.fill(&ready);
-        Ok(())
-    }
-
-    /// The events of the first ready members by object number, at most 16, which stand in `events`. It doesn't wait.
-    ///
-    /// # Errors
-    /// As [`Host::ready_many`].
-    pub fn wait<'a, H: Host>(
-        &self,
-        alloc: Global,
-        host: &mut H,
-        events: &'a mut EpollEvents,
-    ) -> Result<PollEvents<'a, T>, HostError>
-        ensures faults { CountsFaults (H.fault_count host.old) (H.fault_count host.new) (H.never_fails host.old) (H.never_fails host.new) result }
-        ensures refusals { RefusesBy result (HostError.Failed ∷ HostError.EBADF ∷ HostError.OutOfMemory ∷ []) }
-        ensures table { Told (H.held host.old) (H.held host.new) (PollCall (λ polled. polled.events.now) self.now.list result) }
-    {
-        self.fill(alloc, host, events)?;
+        events.fill(alloc, host, self.list)?;
         Ok(events.polled())
     }
 
@@ -212,16 +196,17 @@ impl<T: PollToken> EpollContext<T> {
     ///
     /// # Errors
     /// As [`Host::ready_many`].
-    pub fn wait_timeout<'a, H: Host>(
+    pub fn wait_timeout<H: Host>(
         &self,
         alloc: Global,
         host: &mut H,
-        events: &'a mut EpollEvents,
+        events: &mut EpollEvents,
         _timeout: Duration,
-    ) -> Result<PollEvents<'a, T>, HostError>
+    ) -> Result<PollEvents<T>, HostError>
         ensures faults { CountsFaults (H.fault_count host.old) (H.fault_count host.new) (H.never_fails host.old) (H.never_fails host.new) result }
         ensures refusals { RefusesBy result (HostError.Failed ∷ HostError.EBADF ∷ HostError.OutOfMemory ∷ []) }
-        ensures table { Told (H.held host.old) (H.held host.new) (PollCall (λ polled. polled.events.now) self.now.list result) }
+        ensures after { events.new ≡ events_after_wait result events.old }
+        ensures table { Told (H.held host.old) (H.held host.new) (PollCall (λ polled. polled.events) self.now.list result) }
     {
         self.wait(alloc, host, events)
     }
@@ -238,8 +223,7 @@ pub struct PollContext<T> {
 }
 
 impl<T: PollToken> PollContext<T> {
-    ghost use Rattle.vub_host.specs.contracts.poll_context.PollContext.{the_row};
-    ghost use Rattle.vub_host.specs.Lends.{KeepsMembers};
+    ghost use Rattle.vub_host.specs.Waits.{holding, poll_after_wait};
 
     /// A new context with no member.
     ///
@@ -367,17 +351,14 @@ impl<T: PollToken> PollContext<T> {
     ) -> Result<(), HostError>
         ensures faults { CountsFaults (H.fault_count host.old) (H.fault_count host.new) (H.never_fails host.old) (H.never_fails host.new) result }
         ensures refusals { RefusesBy result (HostError.Failed ∷ HostError.EBADF ∷ HostError.OutOfMemory ∷ []) }
-        ensures same { KeepsMembers self.old self.new }
+        ensures err { OnErr result (self.new ≡ self.old) }
+        ensures ok { IfOk result (λ _. self.new ≡ holding self.old self.new.events) }
         ensures table { Told (H.held host.old) (H.held host.new) (PollCall (λ _. self.new.events) self.old.context.list result) }
     {
-        self.context.fill(alloc, host, &mut self.events)?;
+        self.events.fill(alloc, host, self.context.list)?;
         if self.checks {
             let before = self.hangups;
-            let mut now = before;
-            for _hung_up in self.polled().iter_hungup() {
-                now = now.saturating_add(1);
-            }
-            self.hangups = now;
+            self.hangups = before.saturating_add(self.events.hangups());
             if before <= self.members && self.hangups > self.members {
                 warn!(log; "busy poll wait loop with hungup FDs detected");
             }
@@ -385,31 +366,24 @@ impl<T: PollToken> PollContext<T> {
         Ok(())
     }
 
-    /// The events that it holds, lent.
-    fn polled(&self) -> PollEvents<'_, T>
-        ensures { result.events.now ≡ self.now.events }
-    {
-        self.events.polled()
-    }
-
     /// The events of the first ready members by object number, at most 16. It doesn't wait. It warns by `log` when the
     /// hang-ups since the last accepted add or delete first pass the number of members.
     ///
     /// # Errors
-    /// As [`Host::ready_many`].
+    /// As [`Host::ready_many`]; then the context stays, its events and its count of hang-ups with it.
     pub fn wait<H: Host, R: Log>(
         &mut self,
         alloc: Global,
         host: &mut H,
         log: &R,
-    ) -> Result<PollEvents<'_, T>, HostError>
-        ensures* lent { sem 𝓛 (follows_so (the_row T.row) (the_row T.row) self.entry.ghost_name none (λ _ _. ⊤) (KeepsMembers self.entry.now)) }
+    ) -> Result<PollEvents<T>, HostError>
+        ensures after { self.new ≡ poll_after_wait result self.old }
         ensures faults { CountsFaults (H.fault_count host.old) (H.fault_count host.new) (H.never_fails host.old) (H.never_fails host.new) result }
         ensures refusals { RefusesBy result (HostError.Failed ∷ HostError.EBADF ∷ HostError.OutOfMemory ∷ []) }
-        ensures table { Told (H.held host.old) (H.held host.new) (PollCall (λ polled. polled.events.now) self.entry.now.context.list result) }
+        ensures table { Told (H.held host.old) (H.held host.new) (PollCall (λ polled. polled.events) self.old.context.list result) }
     {
         self.poll(alloc, host, log)?;
-        Ok(self.polled())
+        Ok(self.events.polled())
     }
 
     /// As [`PollContext::wait`]: since nothing is waited for, the timeout has no part in it.
@@ -422,11 +396,11 @@ impl<T: PollToken> PollContext<T> {
         host: &mut H,
         log: &R,
         _timeout: Duration,
-    ) -> Result<PollEvents<'_, T>, HostError>
-        ensures* lent { sem 𝓛 (follows_so (the_row T.row) (the_row T.row) self.entry.ghost_name none (λ _ _. ⊤) (KeepsMembers self.entry.now)) }
+    ) -> Result<PollEvents<T>, HostError>
+        ensures after { self.new ≡ poll_after_wait result self.old }
         ensures faults { CountsFaults (H.fault_count host.old) (H.fault_count host.new) (H.never_fails host.old) (H.never_fails host.new) result }
         ensures refusals { RefusesBy result (HostError.Failed ∷ HostError.EBADF ∷ HostError.OutOfMemory ∷ []) }
-        ensures table { Told (H.held host.old) (H.held host.new) (PollCall (λ polled. polled.events.now) self.entry.now.context.list result) }
+        ensures table { Told (H.held host.old) (H.held host.new) (PollCall (λ polled. polled.events) self.old.context.list result) }
     {
         self.wait(alloc, host, log)
     }

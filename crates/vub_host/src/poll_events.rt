@@ -1,7 +1,10 @@
-ghost use Rattle.std.specs.Prelude.{◌≡◌, ◌≤◌, [], ◌∷◌, length, take, map, IfOk};
+ghost use Rattle.std.specs.Prelude.{◌≡◌, ◌≤◌, [], ◌∷◌, length, take, map, IfOk, OnErr};
 ghost use Rattle.std.specs.Iterator.{YieldsFirstBy, item_count};
+ghost use Rattle.vub_base.specs.Told.{Told};
 ghost use Rattle.vub_event.specs.Counter.{has_bits};
-ghost use Rattle.vub_host.specs.Calls.{event_of};
+ghost use Rattle.vub_event.specs.Errors.{RefusesBy};
+ghost use Rattle.vub_event.specs.Faults.{CountsFaults};
+ghost use Rattle.vub_host.specs.Calls.{PollCall, event_of};
 ghost use Rattle.vub_host.specs.PollEvents.{meeting};
 
 use crate::epoll::{EpollEvent, write_events};
@@ -9,7 +12,7 @@ use crate::poll_token::PollToken;
 use std::alloc::Global;
 use std::marker::{Model, PhantomData};
 use vub_base::OutOfMemory;
-use vub_event::Ready;
+use vub_event::{Host, HostError, Ready};
 
 /// Room for the events of one wait: at most 16. A contract sees the events that are in it.
 #[derive(Drop)]
@@ -58,18 +61,55 @@ impl EpollEvents {
         &self.events[..self.count]
     }
 
-    /// The events as those of a poll, lent.
-    pub(crate) fn polled<T: PollToken>(&self) -> PollEvents<'_, T>
-        ensures { result.events.now ≡ self.now }
+    /// A copy of the events, as those that a poll answers.
+    pub(crate) fn polled<T: PollToken>(&self) -> PollEvents<T>
+        ensures { result.events ≡ self.now }
     {
-        PollEvents::new(self.as_slice())
+        PollEvents {
+            events: EpollEvents {
+                events: self.events,
+                count: self.count,
+            },
+            tokens: PhantomData,
+        }
+    }
+
+    /// How many of the events are hung up.
+    pub(crate) fn hangups(&self) -> u64
+        ensures { result ≡ length (meeting 0x10 self.now) }
+    {
+        let events = self.as_slice();
+        events
+            .iter()
+            .filter(|event| event.events() & 0x10 != 0)
+            .count() as u64
     }
 
     /// Holds the events that report these members, at most 16, and no other.
-    pub(crate) fn fill(&mut self, ready: &[Ready])
+    fn hold(&mut self, ready: &[Ready])
         ensures { self.new ≡ map event_of (take 16 ready.now) }
     {
         self.count = write_events(&mut self.events, ready);
+    }
+
+    /// Holds the events of the first ready members of this list by object number, at most 16, and no other.
+    ///
+    /// # Errors
+    /// As [`Host::ready_many`]; then they stay.
+    pub(crate) fn fill<H: Host>(
+        &mut self,
+        alloc: Global,
+        host: &mut H,
+        list: u32,
+    ) -> Result<(), HostError>
+        ensures faults { CountsFaults (H.fault_count host.old) (H.fault_count host.new) (H.never_fails host.old) (H.never_fails host.new) result }
+        ensures refusals { RefusesBy result (HostError.Failed ∷ HostError.EBADF ∷ HostError.OutOfMemory ∷ []) }
+        ensures err { OnErr result (self.new ≡ self.old) }
+        ensures table { Told (H.held host.old) (H.held host.new) (PollCall (λ _. self.new) list result) }
+    {
+        let ready = host.ready_many(alloc, list, 16)?;
+        self.hold(&ready);
+        Ok(())
     }
 }
 
@@ -155,39 +195,36 @@ impl<'a, T: PollToken> Iterator for PollEventIter<'a, T> {
 
 /// The events that a wait answered: at most 16.
 #[derive(Drop)]
-pub struct PollEvents<'a, T> {
-    events: &'a [EpollEvent],
+pub struct PollEvents<T> {
+    events: EpollEvents,
     tokens: PhantomData<T>,
-    ghost few: { length events.now ≤ 16 },
 }
 
-impl<'a, T: PollToken> PollEvents<'a, T> {
+impl<T: PollToken> PollEvents<T> {
     /// These events.
-    pub fn new(events: &'a [EpollEvent]) -> PollEvents<'a, T>
+    pub fn new(events: &[EpollEvent]) -> PollEvents<T>
         requires { length events.now ≤ 16 }
-        ensures { result.events.now ≡ events.now }
+        ensures { result.events ≡ events.now }
     {
+        let mut held = [EpollEvent::from_raw(0, 0); 16];
+        held[..events.len()].copy_from_slice(events);
         PollEvents {
-            events,
+            events: EpollEvents {
+                events: held,
+                count: events.len(),
+            },
             tokens: PhantomData,
         }
     }
 
-    /// The events, lent.
-    pub fn events(&self) -> &'a [EpollEvent]
-        ensures { result.now ≡ self.now.events.now }
-    {
-        self.events
-    }
-
-    /// A copy that borrows nothing.
+    /// A copy of them.
     ///
     /// # Errors
     /// Want of memory.
     pub fn to_owned(&self, alloc: Global) -> Result<PollEventsOwned<T>, OutOfMemory>
-        ensures { IfOk result (λ owned. owned.events.items ≡ self.now.events.now) }
+        ensures { IfOk result (λ owned. owned.events.items ≡ self.now.events) }
     {
-        let events = Vec::from_slice(alloc, self.events)?;
+        let events = Vec::from_slice(alloc, self.events.as_slice())?;
         Ok(PollEventsOwned {
             events,
             tokens: PhantomData,
@@ -195,37 +232,37 @@ impl<'a, T: PollToken> PollEvents<'a, T> {
     }
 
     /// All events.
-    pub fn iter(&self) -> PollEventIter<'a, T>
+    pub fn iter(&self) -> PollEventIter<'_, T>
         ensures mask { result.mask ≡ 0xffffffff }
-        ensures events { result.events.now ≡ self.now.events.now }
+        ensures events { result.events.now ≡ self.now.events }
     {
         PollEventIter {
             mask: 0xffff_ffff,
-            events: self.events,
+            events: self.events.as_slice(),
             tokens: PhantomData,
         }
     }
 
     /// The events with something to read.
-    pub fn iter_readable(&self) -> PollEventIter<'a, T>
+    pub fn iter_readable(&self) -> PollEventIter<'_, T>
         ensures mask { result.mask ≡ 1 }
-        ensures events { result.events.now ≡ self.now.events.now }
+        ensures events { result.events.now ≡ self.now.events }
     {
         PollEventIter {
             mask: 1,
-            events: self.events,
+            events: self.events.as_slice(),
             tokens: PhantomData,
         }
     }
 
     /// The events that are hung up.
-    pub fn iter_hungup(&self) -> PollEventIter<'a, T>
+    pub fn iter_hungup(&self) -> PollEventIter<'_, T>
         ensures mask { result.mask ≡ 0x10 }
-        ensures events { result.events.now ≡ self.now.events.now }
+        ensures events { result.events.now ≡ self.now.events }
     {
         PollEventIter {
             mask: 0x10,
-            events: self.events,
+            events: self.events.as_slice(),
             tokens: PhantomData,
         }
     }
@@ -240,9 +277,9 @@ pub struct PollEventsOwned<T> {
 }
 
 impl<T: PollToken> PollEventsOwned<T> {
-    /// The events, lent.
-    pub fn as_ref(&self) -> PollEvents<'_, T>
-        ensures { result.events.now ≡ self.now.events.items }
+    /// A copy of them that takes no memory.
+    pub fn as_ref(&self) -> PollEvents<T>
+        ensures { result.events ≡ self.now.events.items }
     {
         PollEvents::new(self.events.as_slice())
     }

@@ -165,7 +165,7 @@ fn counters(alloc: Global, count: u32) -> Result<MemHost, HostError> {
 }
 
 /// The bits and the token of each of these events.
-fn told(alloc: Global, polled: PollEvents<'_, u8>) -> Result<Vec<(u32, u8)>, Fail> {
+fn told(alloc: Global, polled: PollEvents<u8>) -> Result<Vec<(u32, u8)>, Fail> {
     let mut told = Vec::new(alloc);
     for event in polled.iter() {
         told.push((event.raw_events(), event.token()))?;
@@ -235,6 +235,35 @@ fn wait_answers_at_most_sixteen_events(rt: HostRuntime) -> Result<(), Fail> {
         }
         assert_eq!(rt; read.len(), count);
     }
+    Ok(())
+}
+
+#[test]
+fn refused_wait_changes_nothing(rt: HostRuntime) -> Result<(), Fail> {
+    let alloc = rt.alloc();
+    let log = Memory::new(alloc);
+    // the calls: a counter and its write, a list and its member, and three waits
+    let mut host = MemHost::failing(alloc, Vec::from_slice(alloc, &[5])?)?;
+    EventFd::new(alloc, &mut host, 0)?.write(&mut host, 1)?;
+    let context: EpollContext<u8> = EpollContext::new(alloc, &mut host)?;
+    context.add(alloc, &mut host, 0, 7)?;
+    let mut events = EpollEvents::new();
+    let polled = context.wait(alloc, &mut host, &mut events)?;
+    assert_eq!(rt; told(alloc, polled)?.as_slice(), [(1, 7)].as_slice());
+    let refused = context.wait_timeout(alloc, &mut host, &mut events, Duration::ZERO);
+    assert_eq!(rt; refused.map(|_polled| ()), Err(HostError::Failed));
+    assert_eq!(rt; events.as_slice().len(), 1);
+    assert_eq!(rt; events.as_slice()[0].raw_data(), 7);
+    let mut host = MemHost::failing(alloc, Vec::from_slice(alloc, &[4])?)?;
+    EventFd::new(alloc, &mut host, 0)?.write(&mut host, 1)?;
+    let mut poll: PollContext<u8> = PollContext::new(alloc, &mut host)?;
+    poll.add(alloc, &mut host, 0, 7)?;
+    host.hang_up(0);
+    let refused = poll.wait(alloc, &mut host, &log);
+    assert_eq!(rt; refused.map(|_polled| ()), Err(HostError::Failed));
+    // the refused wait counts no hang-up, so that of the next one is the first, and does not pass the one member
+    poll.wait(alloc, &mut host, &log)?;
+    assert_eq!(rt; log.into_lines().len(), 0);
     Ok(())
 }
 
