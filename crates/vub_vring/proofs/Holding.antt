@@ -15,25 +15,25 @@ use Rattle.vub_model.specs.declared.ring_op.RingSaid.{RingSaid}
 use Rattle.vub_model.specs.RingRecord.{Vring, is_on, ring_said, ring_after, closed_ring}
 use Rattle.vub_model.specs.Held.{Held, ring_at}
 use Rattle.vub_model.specs.Work.{is_object, looked, after_none, put_said, used, called, is_live}
-use Rattle.vub_vring.specs.declared.ops.TableRing.{TableRing}
-use Rattle.vub_vring.specs.declared.ops.TableRing.TheVariants as table_ring
-use Rattle.vub_vring.specs.declared.ops.TableRingSaid.{TableRingSaid}
-use Rattle.vub_vring.specs.declared.ops.TableRingSaid.TheVariants as table_said
-use Rattle.vub_vring.specs.declared.ops.KickSaid.{KickSaid}
-use Rattle.vub_vring.specs.declared.ops.KickSaid.TheVariants.{Stale, Serve, Quiet}
-use Rattle.vub_vring.specs.declared.ops.PutSaid.{PutSaid}
-use Rattle.vub_vring.specs.declared.ops.PutSaid.TheVariants as put_answer
-use Rattle.vub_vring.specs.declared.ops.PendOp.{PendOp}
-use Rattle.vub_vring.specs.declared.ops.PendOp.TheVariants as pend
-use Rattle.vub_vring.specs.declared.ops.PendSaid.{PendSaid}
-use Rattle.vub_vring.specs.declared.ops.PendSaid.TheVariants as pend_said
+use Rattle.vub_ring.specs.declared.ops.TableRing.{TableRing}
+use Rattle.vub_ring.specs.declared.ops.TableRing.TheVariants as table_ring
+use Rattle.vub_ring.specs.declared.ops.TableRingSaid.{TableRingSaid}
+use Rattle.vub_ring.specs.declared.ops.TableRingSaid.TheVariants as table_said
+use Rattle.vub_ring.specs.declared.ops.KickSaid.{KickSaid}
+use Rattle.vub_ring.specs.declared.ops.KickSaid.TheVariants.{Stale, Serve, Quiet}
+use Rattle.vub_ring.specs.declared.ops.PutSaid.{PutSaid}
+use Rattle.vub_ring.specs.declared.ops.PutSaid.TheVariants as put_answer
+use Rattle.vub_ring.specs.declared.ops.PendOp.{PendOp}
+use Rattle.vub_ring.specs.declared.ops.PendOp.TheVariants as pend
+use Rattle.vub_ring.specs.declared.ops.PendSaid.{PendSaid}
+use Rattle.vub_ring.specs.declared.ops.PendSaid.TheVariants as pend_said
 use Rattle.vub_vring.specs.declared.ops.HostOp.{HostOp}
 use Rattle.vub_vring.specs.declared.ops.HostSaid.{HostSaid}
-use Rattle.vub_vring.specs.declared.ops.PartsError.{PartsError}
-use Rattle.vub_vring.specs.declared.ops.PartsError.TheVariants.{Fault}
+use Rattle.vub_ring.specs.declared.ops.PartsError.{PartsError}
+use Rattle.vub_ring.specs.declared.ops.PartsError.TheVariants.{Fault}
 use Rattle.vub_vring.specs.Calls.{Called, RingCall, TableRingCall, TakeCall, KickCall, PutCall, PutUncalled, PendCall, HostCall, HostTableCall}
-use Rattle.vub_vring.specs.Faults.{CountsFaults}
-use Rattle.vub_vring.specs.Play.{OnTable, found, guest_none, kick_said, KickTable, put_found, table_wanted, table_put, PutTable, CallsIf}
+use Rattle.vub_ring.specs.Faults.{CountsFaults}
+use Rattle.vub_ring.specs.Play.{OnTable, found, guest_none, kick_said, KickTable, put_found, table_wanted, table_put, PutTable, CallsIf}
 use Rattle.vub_vring.specs.Store.{ring_in, TakesAt, PutsAt, PendsAt}
 
 -- a call that never faults, on parts whose count stays

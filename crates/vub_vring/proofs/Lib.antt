@@ -1,9 +1,5 @@
 pub mod Holding
-pub mod Numbers
 pub mod Places
 pub mod Saying
-pub mod Settling
 pub mod Storing
-pub mod Takes
-pub mod Using
 pub mod Working

@@ -6,13 +6,13 @@ use Rattle.vub_queue.specs.declared.took.Took.TheVariants as took
 use Rattle.vub_queue.specs.declared.putting.PutFault.TheVariants as put_fault
 use Rattle.vub_model.specs.declared.ring_op.RingOp.TheVariants as op
 use Rattle.vub_model.specs.RingRecord.{Vring, closed_ring, ring_after}
-use Rattle.vub_vring.specs.declared.ops.TableRingSaid.{TableRingSaid}
-use Rattle.vub_vring.specs.declared.ops.TableRingSaid.TheVariants as table_said
-use Rattle.vub_vring.specs.declared.ops.PutSaid.{PutSaid}
-use Rattle.vub_vring.specs.declared.ops.PutSaid.TheVariants as put_said
-use Rattle.vub_vring.specs.declared.ops.PendOp.{PendOp}
-use Rattle.vub_vring.specs.declared.ops.PendSaid.{PendSaid}
-use Rattle.vub_vring.specs.Play.{found, guest_none, put_found, TakePlays, PutPlays, PendPlays}
+use Rattle.vub_ring.specs.declared.ops.TableRingSaid.{TableRingSaid}
+use Rattle.vub_ring.specs.declared.ops.TableRingSaid.TheVariants as table_said
+use Rattle.vub_ring.specs.declared.ops.PutSaid.{PutSaid}
+use Rattle.vub_ring.specs.declared.ops.PutSaid.TheVariants as put_said
+use Rattle.vub_ring.specs.declared.ops.PendOp.{PendOp}
+use Rattle.vub_ring.specs.declared.ops.PendSaid.{PendSaid}
+use Rattle.vub_ring.specs.Play.{found, guest_none, put_found, TakePlays, PutPlays, PendPlays}
 use Rattle.vub_vring.specs.Store.{ring_in, left_by, TakesAt, PutsAt, PendsAt}
 
 -- what is there does not hang on what stands for what is not

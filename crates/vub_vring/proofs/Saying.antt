@@ -11,11 +11,12 @@ use Rattle.vub_event.specs.HostCalls.{member_for, CreateEventCall, CreateListCal
 use Rattle.vub_vring.specs.declared.ops.HostOp.TheVariants as host
 use Rattle.vub_vring.specs.declared.ops.HostSaid.{HostSaid}
 use Rattle.vub_vring.specs.declared.ops.HostSaid.TheVariants as said
-use Rattle.vub_vring.specs.declared.ops.PartsError.TheVariants as parts_error
+use Rattle.vub_ring.specs.declared.ops.PartsError.TheVariants as parts_error
 use Rattle.vub_vring.specs.Calls.{HostTableCall, IsSaid}
-use Rattle.vub_vring.specs.Faults.{CountsFaults as CountsPartsFaults}
-use Rattle.vub_vring.specs.Play.{OnTable, HostPlays, said_refused, said_by}
-use Rattle.vub_vring.proofs.Settling.{told-map}
+use Rattle.vub_ring.specs.Faults.{CountsFaults as CountsPartsFaults}
+use Rattle.vub_ring.specs.Play.{OnTable}
+use Rattle.vub_vring.specs.Hosting.{HostPlays, said_refused, said_by}
+use Rattle.vub_ring.proofs.Settling.{told-map}
 
 -- what the host's answer means, the parts' answer means
 says : {T : Type 0} (wrap : T → HostSaid) (R : Result T HostError → HostTable → HostTable → Type 0) (P : HostSaid → HostTable → HostTable → Type 0) → ((x : T) (a b : HostTable) → R (Ok x) a b → P (wrap x) a b) → ((e : HostError) (a b : HostTable) → said_refused e ≡ Ok (said.Refused e) → R (Err e) a b → P (said.Refused e) a b) → ((e : HostError) (a b : HostTable) → R (Err e) a b → b ≡ a) → (r : Result T HostError) (old new : Option HostTable) → Told old new (R r) → OnTable (said_by wrap r) old new P

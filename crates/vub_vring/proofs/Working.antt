@@ -21,12 +21,12 @@ use Rattle.vub_model.specs.Opening.{listed, exit_member}
 use Rattle.vub_vring.specs.declared.ops.HostOp.TheVariants as host
 use Rattle.vub_vring.specs.declared.ops.HostSaid.{HostSaid}
 use Rattle.vub_vring.specs.declared.ops.HostSaid.TheVariants as said
-use Rattle.vub_vring.specs.declared.ops.PartsError.{PartsError}
-use Rattle.vub_vring.specs.declared.ops.PartsError.TheVariants as parts_error
+use Rattle.vub_ring.specs.declared.ops.PartsError.{PartsError}
+use Rattle.vub_ring.specs.declared.ops.PartsError.TheVariants as parts_error
 use Rattle.vub_vring.specs.Calls.{HostCall, IsSaid}
-use Rattle.vub_vring.specs.Faults.{CountsFaults}
+use Rattle.vub_ring.specs.Faults.{CountsFaults}
 use Rattle.vub_vring.specs.Worker.{exit_in, HasExit, Opens, OpensFor, number_of, error_of, MakesList, MakesBell, joined_table, Joins, JoinsExit, IsOpeningFault, OpensBy}
-use Rattle.vub_vring.proofs.Settling.{told-map}
+use Rattle.vub_ring.proofs.Settling.{told-map}
 
 -- The calls of the host
 

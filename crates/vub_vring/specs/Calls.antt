@@ -1,6 +1,6 @@
 -- What each call of `Parts` says and leaves, as a relation of what is held before and after. Each is one row of the
 -- machine's steps, or a small step of one of its parts.
-use Rattle.std.specs.Prelude.{◌≡◌, ℕ, Bool, true, false, List, sum_by, Option, Result, Ok, Err}
+use Rattle.std.specs.Prelude.{◌≡◌, ℕ, Bool, true, false, List, Option, Result, Ok, Err}
 use Rattle.vub_base.specs.Told.{Told}
 use Rattle.vub_event.specs.HostTable.{HostTable}
 use Rattle.vub_event.specs.HostCalls.{CreateEventCall, CreateListCall, SignalCall, ConsumeCall, AddCall, DeleteCall, ListenCall, UnlistenCall, ConsumeAsCall, FirstReadyCall, ClaimCall, release_after, member_for}
@@ -15,23 +15,23 @@ use Rattle.vub_model.specs.EntryNumber.{next_number}
 use Rattle.vub_model.specs.Held.{Held, ring_at, with_ring, counter_read, inserted, removed, swept, pending_at}
 use Rattle.vub_model.specs.Service.{Meaning}
 use Rattle.vub_model.specs.Work.{is_object, looked, after_none, put_said, used, called}
-use Rattle.vub_vring.specs.declared.ops.TableRing.{TableRing}
-use Rattle.vub_vring.specs.declared.ops.TableRing.TheVariants as table_ring
-use Rattle.vub_vring.specs.declared.ops.TableRingSaid.{TableRingSaid}
-use Rattle.vub_vring.specs.declared.ops.TableRingSaid.TheVariants as table_said
-use Rattle.vub_vring.specs.declared.ops.KickSaid.{KickSaid}
-use Rattle.vub_vring.specs.declared.ops.KickSaid.TheVariants.{Stale, Serve, Quiet}
-use Rattle.vub_vring.specs.declared.ops.PutSaid.{PutSaid}
-use Rattle.vub_vring.specs.declared.ops.PutSaid.TheVariants as put_answer
-use Rattle.vub_vring.specs.declared.ops.PendOp.{PendOp}
-use Rattle.vub_vring.specs.declared.ops.PendOp.TheVariants as pend
-use Rattle.vub_vring.specs.declared.ops.PendSaid.{PendSaid}
-use Rattle.vub_vring.specs.declared.ops.PendSaid.TheVariants as pend_said
+use Rattle.vub_ring.specs.declared.ops.TableRing.{TableRing}
+use Rattle.vub_ring.specs.declared.ops.TableRing.TheVariants as table_ring
+use Rattle.vub_ring.specs.declared.ops.TableRingSaid.{TableRingSaid}
+use Rattle.vub_ring.specs.declared.ops.TableRingSaid.TheVariants as table_said
+use Rattle.vub_ring.specs.declared.ops.KickSaid.{KickSaid}
+use Rattle.vub_ring.specs.declared.ops.KickSaid.TheVariants.{Stale, Serve, Quiet}
+use Rattle.vub_ring.specs.declared.ops.PutSaid.{PutSaid}
+use Rattle.vub_ring.specs.declared.ops.PutSaid.TheVariants as put_answer
+use Rattle.vub_ring.specs.declared.ops.PendOp.{PendOp}
+use Rattle.vub_ring.specs.declared.ops.PendOp.TheVariants as pend
+use Rattle.vub_ring.specs.declared.ops.PendSaid.{PendSaid}
+use Rattle.vub_ring.specs.declared.ops.PendSaid.TheVariants as pend_said
 use Rattle.vub_vring.specs.declared.ops.HostOp.{HostOp}
 use Rattle.vub_vring.specs.declared.ops.HostOp.TheVariants as host
 use Rattle.vub_vring.specs.declared.ops.HostSaid.{HostSaid}
 use Rattle.vub_vring.specs.declared.ops.HostSaid.TheVariants as said
-use Rattle.vub_vring.specs.declared.ops.PartsError.{PartsError}
+use Rattle.vub_ring.specs.declared.ops.PartsError.{PartsError}
 
 -- A call that was made says and leaves what the relation says, where what is held is told. One that was not made changes
 -- nothing, told or not.
@@ -52,11 +52,6 @@ TakeCall queue (table_said.Damaged d) old new = (looked old queue ≡ took.Damag
 
 abbrev pub TableRingCall : {V : Type 0} → ℕ → TableRing → TableRingSaid → Held V → Held V → Type 0
 TableRingCall queue table_ring.Take s old new = TakeCall queue s old new
-
--- told or not, an entry that is taken has the room of its segments
-abbrev pub HasRoom : TableRingSaid → Type 0
-HasRoom (table_said.Taken epoch number c) = c.room ≡ sum_by (λ s. s.len) c.segments
-HasRoom s = Unit {0}
 
 -- `ring_host`: the counter of the ring's kick is read
 abbrev pub KickCall : {V : Type 0} → ℕ → ℕ → KickSaid → Held V → Held V → Type 0

@@ -1,8 +1,4 @@
 pub mod Calls
-pub mod Events
-pub mod Faults
-pub mod Pending
-pub mod Play
-pub mod State
+pub mod Hosting
 pub mod Store
 pub mod Worker

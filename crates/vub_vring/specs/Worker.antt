@@ -11,8 +11,8 @@ use Rattle.vub_model.specs.declared.constants.Constants.{Constants}
 use Rattle.vub_model.specs.declared.wiring.Opened.{Opened}
 use Rattle.vub_model.specs.Held.{Held}
 use Rattle.vub_model.specs.Opening.{listed, opening_members}
-use Rattle.vub_vring.specs.declared.ops.PartsError.{PartsError}
-use Rattle.vub_vring.specs.declared.ops.PartsError.TheVariants as parts_error
+use Rattle.vub_ring.specs.declared.ops.PartsError.{PartsError}
+use Rattle.vub_ring.specs.declared.ops.PartsError.TheVariants as parts_error
 use Rattle.vub_vring.specs.declared.ops.HostSaid.{HostSaid}
 use Rattle.vub_vring.specs.declared.ops.HostSaid.TheVariants.{Number}
 

@@ -1,14 +1,14 @@
 //! What the guest does by itself.
-ghost use Rattle.std.specs.Prelude.{◌≡◌, [], ◌+◌, nat_le, length};
+ghost use Rattle.std.specs.Prelude.{◌≡◌, [], ◌+◌, nat_le};
 ghost use Rattle.vub_model.specs.World.{acted, stored};
-ghost use Rattle.vub_vring.specs.Events.{table_raised};
+ghost use Rattle.vub_ring.specs.Events.{table_raised};
 ghost use Rattle.vub_vring.specs.Store.{held_of};
 
-use crate::events::raise_anyway;
 use crate::store::Store;
 use vub_event::MemHost;
 use vub_mem::{DirtyLog, GuestMemory};
 use vub_model::Guest;
+use vub_ring::raise_anyway;
 
 /// Whether `len` bytes from byte `offset` on end within the first `room`.
 fn fits(room: usize, offset: u64, len: usize) -> bool
@@ -29,7 +29,7 @@ fn store_bytes<L: DirtyLog>(memory: &mut GuestMemory<L>, object: u32, offset: u6
 }
 
 /// Adds 1 to the count of an event. A full counter stays.
-#[tactic(auto, using(crate::proofs::Settling::raised_sound))]
+#[tactic(auto, using(vub_ring::proofs::Settling::raised_sound))]
 fn signal_event(host: &mut MemHost, object: u32)
     ensures table { host.old.plan.calls.items ≡ [] → host.new.table ≡ table_raised host.old.table object }
     ensures still { host.old.plan.calls.items ≡ [] → host.new.plan.calls.items ≡ [] }

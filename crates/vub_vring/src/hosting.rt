@@ -1,12 +1,14 @@
 //! A call of a host, as the parts make it.
 ghost use Rattle.std.specs.Prelude.{◌≡◌, IfOk};
 ghost use Rattle.vub_vring.specs.Calls.{IsSaid};
-ghost use Rattle.vub_vring.specs.Faults.{CountsFaults};
-ghost use Rattle.vub_vring.specs.Play.{OnTable, HostPlays, said_by, said_refused};
+ghost use Rattle.vub_ring.specs.Faults.{CountsFaults};
+ghost use Rattle.vub_ring.specs.Play.{OnTable};
+ghost use Rattle.vub_vring.specs.Hosting.{HostPlays, said_by, said_refused};
 
-use crate::ops::{HostOp, HostSaid, PartsError};
+use crate::ops::{HostOp, HostSaid};
 use std::alloc::Global;
 use vub_event::{Host, HostError, Ready};
+use vub_ring::PartsError;
 
 fn refused(error: HostError) -> Result<HostSaid, PartsError>
     ensures { result ≡ said_refused error }

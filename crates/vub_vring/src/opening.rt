@@ -5,11 +5,12 @@ ghost use Rattle.vub_base.specs.Told.{Told};
 ghost use Rattle.vub_model.specs.Opening.{listed};
 ghost use Rattle.vub_vring.specs.Worker.{exit_in, number_of, error_of, MakesList, MakesBell, Joins, JoinsExit, OpensFor, OpensBy};
 
-use crate::ops::{HostOp, HostSaid, PartsError};
+use crate::ops::{HostOp, HostSaid};
 use crate::parts::Parts;
 use std::alloc::Global;
 use vub_event::EventSet;
 use vub_model::{Constants, Opened, VringEpollError};
+use vub_ring::PartsError;
 
 /// The flags of a bell: it never blocks (`EFD_NONBLOCK` of eventfd(2)).
 const NONBLOCK: u32 = 0x800;
@@ -73,7 +74,7 @@ fn new_bell<P: Parts>(alloc: Global, parts: &mut P) -> Result<u32, VringEpollErr
 }
 
 /// Adds the exit object of a worker to its list, if it has one.
-#[tactic(auto, using(crate::proofs::Working::told_join, crate::proofs::Working::opens_ok, crate::proofs::Working::opens_err, crate::proofs::Settling::told_same))]
+#[tactic(auto, using(crate::proofs::Working::told_join, crate::proofs::Working::opens_ok, crate::proofs::Working::opens_err, vub_ring::proofs::Settling::told_same))]
 fn join_exit<P: Parts>(
     alloc: Global,
     parts: &mut P,

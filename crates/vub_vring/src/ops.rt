@@ -1,49 +1,5 @@
-//! What the calls of `Parts` are asked, and what they say.
-use crate::pending::Pending;
+//! What the call of the host is asked, and what it says.
 use vub_event::{EventSet, HostError, Ready};
-use vub_queue::{Chain, Damage, PutFault};
-
-/// A step of one ring together with guest memory.
-#[derive(Clone, Copy, Debug, PartialEq, Eq)]
-pub enum TableRing {
-    /// Takes the next entry.
-    Take,
-}
-
-/// What `ring_table` says.
-#[derive(Debug, Drop)]
-pub enum TableRingSaid {
-    /// An entry was taken: how many bases the ring was given before, the entry's number, and its chain.
-    Taken {
-        epoch: u64,
-        number: u64,
-        chain: Chain,
-    },
-    /// The ring is not ready, not enabled or without addresses, or an entry of it is in flight, or none is left.
-    Nothing,
-    /// The ring is damaged, and nothing was taken.
-    Damaged(Damage),
-}
-
-/// What `ring_host` says.
-#[derive(Clone, Copy, Debug, PartialEq, Eq)]
-pub enum KickSaid {
-    /// The event is no kick of the ring any more. It was not read.
-    Stale,
-    /// The counter was read, and the ring is ready and enabled.
-    Serve,
-    /// The counter was read, and the ring is not ready or not enabled.
-    Quiet,
-}
-
-/// What `put` says.
-#[derive(Clone, Copy, Debug, PartialEq, Eq)]
-pub enum PutSaid {
-    /// The entry is used.
-    Done,
-    /// The use is refused, and the entry is held.
-    Held(PutFault),
-}
 
 /// A call of the host, with the arguments of the call of its name.
 #[derive(Clone, Copy, Debug, PartialEq, Eq)]
@@ -76,28 +32,4 @@ pub enum HostSaid {
     Ready(Option<Ready>),
     /// The host refused the call, and nothing changed. Neither a fault nor want of memory stands here.
     Refused(HostError),
-}
-
-/// A change of a worker's pending set.
-#[derive(Clone, Copy, Debug, PartialEq, Eq)]
-pub enum PendOp {
-    Insert(u32),
-    Remove(u32),
-    TakeAll,
-}
-
-/// What `pend` says.
-#[derive(Debug, Drop)]
-pub enum PendSaid {
-    Done,
-    /// The event numbers that were pending.
-    All(Pending),
-}
-
-/// Why a call of `Parts` was not made.
-#[derive(Clone, Copy, Debug, PartialEq, Eq)]
-pub enum PartsError {
-    /// The host failed; its count of faults rose.
-    Fault,
-    OutOfMemory,
 }

@@ -1,13 +1,7 @@
-ghost use Rattle.std.specs.Prelude.{◌≡◌, ◌⊎◌, ◌≤◌, ℕ, [], Some, IfOk, length};
-ghost use Rattle.vub_base.specs.Causes.{Rose};
-ghost use Rattle.vub_model.specs.Held.{Held};
-ghost use Rattle.vub_vring.specs.Calls.{Called, HasRoom, IsSaid};
-ghost use Rattle.vub_vring.specs.Faults.{CountsFaults};
+ghost use Rattle.std.specs.Prelude.{◌≡◌, [], Some};
 ghost use Rattle.vub_vring.specs.Store.{held_of};
 
-use crate::ops::{
-    HostOp, HostSaid, KickSaid, PartsError, PendOp, PendSaid, PutSaid, TableRing, TableRingSaid,
-};
+use crate::ops::{HostOp, HostSaid};
 use crate::parts::Parts;
 use crate::store::{Store, copy_constants, host_at, kick_at, pend_at, put_at, ring_at, take_at};
 use std::alloc::Global;
@@ -16,6 +10,7 @@ use vub_event::Host;
 use vub_mem::DirtyLog;
 use vub_model::{Constants, Entry, RingOp, RingSaid};
 use vub_proto::Service;
+use vub_ring::{KickSaid, PartsError, PendOp, PendSaid, PutSaid, TableRing, TableRingSaid};
 
 /// All parts, lent: they tell what they hold. They own no memory, so that what is lent comes back known.
 #[derive(Drop)]

@@ -4,16 +4,16 @@ ghost use Rattle.std.specs.Option.{ForSome};
 ghost use Rattle.vub_model.specs.declared.constants.Constants.{Constants};
 ghost use Rattle.vub_model.specs.Held.{Held};
 ghost use Rattle.vub_model.specs.Service.{meaning};
-ghost use Rattle.vub_vring.specs.Calls.{Called, RingCall, TableRingCall, HasRoom, KickCall, PutCall, PutUncalled, PendCall, ServiceCall, HostCall, IsSaid};
-ghost use Rattle.vub_vring.specs.Faults.{CountsFaults};
+ghost use Rattle.vub_ring.specs.Play.{HasRoom};
+ghost use Rattle.vub_vring.specs.Calls.{Called, RingCall, TableRingCall, KickCall, PutCall, PutUncalled, PendCall, ServiceCall, HostCall, IsSaid};
+ghost use Rattle.vub_ring.specs.Faults.{CountsFaults};
 
-use crate::ops::{
-    HostOp, HostSaid, KickSaid, PartsError, PendOp, PendSaid, PutSaid, TableRing, TableRingSaid,
-};
+use crate::ops::{HostOp, HostSaid};
 use std::alloc::Global;
 use vub_base::{Bytes, OutOfMemory};
 use vub_model::{Constants, Entry, RingOp, RingSaid};
 use vub_proto::Service;
+use vub_ring::{KickSaid, PartsError, PendOp, PendSaid, PutSaid, TableRing, TableRingSaid};
 
 /// The parts that guest, control and workers share: rings, guest memory, the host, pending sets, the device and the
 /// service. Each call is one hold of the parts that it touches, and one step of the machine.

@@ -1,9 +1,7 @@
 //! Parts that tell nothing of what they hold, as those behind locks.
-ghost use Rattle.std.specs.Prelude.{ℕ, None};
+ghost use Rattle.std.specs.Prelude.{None};
 
-use crate::ops::{
-    HostOp, HostSaid, KickSaid, PartsError, PendOp, PendSaid, PutSaid, TableRing, TableRingSaid,
-};
+use crate::ops::{HostOp, HostSaid};
 use crate::owned::OwnedParts;
 use crate::parts::Parts;
 use std::alloc::Global;
@@ -11,6 +9,7 @@ use vub_base::{Bytes, OutOfMemory};
 use vub_mem::DirtyLog;
 use vub_model::{Constants, Entry, RingOp, RingSaid};
 use vub_proto::Service;
+use vub_ring::{KickSaid, PartsError, PendOp, PendSaid, PutSaid, TableRing, TableRingSaid};
 
 /// Parts that tell nothing. They pass each call on.
 #[derive(Drop)]

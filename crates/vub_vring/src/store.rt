@@ -1,25 +1,24 @@
 //! All parts but the service, and the steps on the ring of one queue and the pending set of one worker.
-ghost use Rattle.std.specs.Prelude.{◌≡◌, ◌≤◌, [], List, ℕ, Some, Ok, IfOk, OnOk, OnErr, IsErrOf, length, sum_by, slice_set};
+ghost use Rattle.std.specs.Prelude.{◌≡◌, ◌≤◌, [], Some, Ok, IfOk, OnOk, OnErr, IsErrOf, length, sum_by, slice_set};
 ghost use Rattle.vub_model.specs.RingRecord.{closed_ring, ring_said, ring_after};
-ghost use Rattle.vub_vring.specs.Calls.{HasRoom, HostTableCall, IsSaid};
-ghost use Rattle.vub_vring.specs.Events.{table_read};
-ghost use Rattle.vub_vring.specs.Faults.{CountsFaults};
-ghost use Rattle.vub_vring.specs.Play.{OnTable, KickTable, kick_said, put_found, PutTable, table_put, PendPlays};
+ghost use Rattle.vub_ring.specs.Play.{HasRoom};
+ghost use Rattle.vub_vring.specs.Calls.{HostTableCall, IsSaid};
+ghost use Rattle.vub_ring.specs.Faults.{CountsFaults};
+ghost use Rattle.vub_ring.specs.Play.{OnTable, KickTable, kick_said, put_found, PutTable, table_put, PendPlays};
 ghost use Rattle.vub_vring.specs.Store.{ring_in, left_by, TakesAt, PutsAt, PendsAt};
 
 use crate::hosting::{play_host, ready};
-use crate::ops::{
-    HostOp, HostSaid, KickSaid, PartsError, PendOp, PendSaid, PutSaid, TableRing, TableRingSaid,
-};
-use crate::pending::Pending;
-use crate::play::{play_kick, play_pend, play_put, play_ring, play_table};
-use crate::state::VringState;
+use crate::ops::{HostOp, HostSaid};
 use std::alloc::Global;
 use vub_base::{Listed, OutOfMemory};
 use vub_event::{Host, MemHost};
 use vub_mem::{DirtyLog, GuestMemory};
 use vub_model::{Constants, Entry, RingOp, RingSaid};
 use vub_queue::PutFault;
+use vub_ring::{
+    KickSaid, PartsError, PendOp, PendSaid, Pending, PutSaid, TableRing, TableRingSaid, VringState,
+    play_kick, play_pend, play_put, play_ring, play_table,
+};
 
 /// All parts but the service: guest memory, the rings by queue, the host, and the pending sets by worker.
 #[derive(Drop)]
@@ -102,7 +101,7 @@ pub(crate) fn kick_at<H: Host>(
 }
 
 /// Uses an entry of its queue with this reply.
-#[tactic(auto, using(crate::proofs::Places::put_there, crate::proofs::Places::put_missing, crate::proofs::Places::ring_there, crate::proofs::Places::ring_missing, crate::proofs::Settling::told_same))]
+#[tactic(auto, using(crate::proofs::Places::put_there, crate::proofs::Places::put_missing, crate::proofs::Places::ring_there, crate::proofs::Places::ring_missing, vub_ring::proofs::Settling::told_same))]
 pub(crate) fn put_at<L: DirtyLog, H: Host>(
     alloc: Global,
     rings: &mut Vec<VringState>,

@@ -1,18 +1,16 @@
-use crate::booked::Booked;
 use crate::silent::SilentParts;
 use crate::{
     HostOp, HostSaid, KickSaid, OwnedParts, Parts, PartsError, PendOp, PendSaid, Pending, PutSaid,
-    Store, TableRing, TableRingSaid, VringState, open_worker, play_put, play_ring, play_table,
+    Store, TableRing, TableRingSaid, VringState, open_worker,
 };
 use std::alloc::Global;
-use std::process::Abort;
 use std::test::Fail;
 use vub_base::{Bytes, Listed, OutOfMemory};
 use vub_event::{EventSet, Host, HostError, MemHost, Member};
 use vub_mem::{GuestMemory, Region};
 use vub_model::{Constants, Entry, Guest, RingOp, RingSaid, VringEpollError};
 use vub_proto::Service;
-use vub_queue::{PutFault, QueueError};
+use vub_queue::PutFault;
 
 const START: u64 = 0x10000;
 
@@ -21,132 +19,6 @@ const DESC: u64 = 0x10000;
 const AVAIL: u64 = 0x11000;
 
 const USED: u64 = 0x12000;
-
-fn refusal_of(max: u16) -> Option<QueueError> {
-    match VringState::new(max) {
-        Ok(_) => None,
-        Err(error) => Some(error),
-    }
-}
-
-#[test]
-fn ring_is_set_up(rt: HostRuntime) -> Result<(), Fail> {
-    let mut ring = VringState::new(0x1000)?;
-    ring.set_queue_next_avail(0x20);
-    ring.set_queue_size(0x200);
-    assert_eq!(rt; ring.queue_next_avail(), 0x20);
-    assert_eq!(rt; ring.get_queue().size(), 0x200);
-    ring.set_queue_size(0x300);
-    assert_eq!(rt; ring.get_queue().size(), 0x200);
-    ring.get_queue_mut().set_ready(true);
-    assert!(rt; ring.get_queue().ready());
-    assert_eq!(rt; refusal_of(3), Some(QueueError::InvalidMaxSize));
-    Ok(())
-}
-
-/// A kick to be read: whether it is set, how often it was signalled, whether the ring is enabled; and the answer.
-#[derive(Clone, Copy)]
-struct KickCase {
-    set: bool,
-    signals: u64,
-    enabled: bool,
-    want: bool,
-}
-
-const KICKS: [KickCase; 4] = [
-    KickCase {
-        set: false,
-        signals: 0,
-        enabled: true,
-        want: true,
-    },
-    KickCase {
-        set: true,
-        signals: 3,
-        enabled: true,
-        want: true,
-    },
-    KickCase {
-        set: true,
-        signals: 0,
-        enabled: true,
-        want: true,
-    },
-    KickCase {
-        set: true,
-        signals: 1,
-        enabled: false,
-        want: false,
-    },
-];
-
-#[test]
-fn kick_is_read(rt: HostRuntime) -> Result<(), Fail> {
-    let alloc = rt.alloc();
-    for case in KICKS.iter() {
-        let mut host = MemHost::new(alloc);
-        let object = host.create_event(alloc, 0)?;
-        let mut ring = VringState::new(8)?;
-        if case.set {
-            ring.set_kick(Some(object));
-        }
-        ring.set_enabled(case.enabled);
-        host.signal(object, case.signals)?;
-        assert_eq!(rt; ring.read_kick(&mut host)?, case.want);
-        assert_eq!(rt; host.consume(object), Err(HostError::WouldBlock));
-    }
-    Ok(())
-}
-
-#[test]
-fn failing_host_is_told_of(rt: HostRuntime) -> Result<(), Fail> {
-    let alloc = rt.alloc();
-    let mut host = MemHost::failing(alloc, vec![in alloc; 1, 2]?)?;
-    let object = host.create_event(alloc, 0)?;
-    let mut ring = VringState::new(8)?;
-    ring.set_kick(Some(object));
-    ring.set_call(Some(object));
-    assert_eq!(rt; ring.read_kick(&mut host), Err(HostError::Failed));
-    assert_eq!(rt; ring.signal_used_queue(&mut host), Err(HostError::Failed));
-    ring.signal_used_queue(&mut host)?;
-    assert_eq!(rt; host.consume(object)?, 1);
-    Ok(())
-}
-
-/// An op on a ring from which an entry was taken and not used yet, and what it says.
-const OPS: [(RingOp, RingSaid); 10] = [
-    (RingOp::SetReady(false), RingSaid::Waits),
-    (RingOp::SetReady(true), RingSaid::Done),
-    (RingOp::SetSize(4), RingSaid::Waits),
-    (
-        RingOp::SetInfo {
-            desc: DESC,
-            avail: AVAIL,
-            used: USED,
-            next_used: None,
-        },
-        RingSaid::Waits,
-    ),
-    (RingOp::SetBase(9), RingSaid::Waits),
-    (RingOp::SetEnabled(false), RingSaid::Done),
-    (RingOp::SetKick(None), RingSaid::Done),
-    (RingOp::GetBase, RingSaid::Base(8)),
-    (RingOp::Put, RingSaid::Done),
-    (RingOp::SetBase(9), RingSaid::Done),
-];
-
-#[test]
-fn ops_wait_for_the_entry_in_flight(rt: HostRuntime) -> Result<(), Fail> {
-    let mut ring = VringState::new(8)?;
-    assert_eq!(rt; ring.apply(RingOp::SetBase(7)), RingSaid::Done);
-    assert_eq!(rt; ring.apply(RingOp::Taken), RingSaid::Done);
-    for (op, want) in OPS.iter() {
-        assert_eq!(rt; ring.apply(*op), *want);
-    }
-    assert_eq!(rt; ring.next_number(), 9);
-    assert_eq!(rt; ring.get_epoch(), 2);
-    Ok(())
-}
 
 /// Replies with the first bytes of the request.
 #[derive(Debug, Drop)]
@@ -357,51 +229,6 @@ fn parts_call_the_host(rt: HostRuntime) -> Result<(), Fail> {
     for (op, want) in CALLS.iter() {
         assert_eq!(rt; parts.host(alloc, *op)?, *want);
     }
-    Ok(())
-}
-
-#[test]
-fn use_without_room_for_an_op_writes_nothing(rt: HostRuntime) -> Result<(), Fail> {
-    let alloc = rt.alloc();
-    let mut store = store_of(alloc)?;
-    let mut ring = Booked {
-        state: ring_of()?,
-        room: 1,
-    };
-    assert_eq!(rt;
-        play_ring(alloc, &mut ring, RingOp::SetEventIdx(true))?,
-        RingSaid::Done
-    );
-    assert_eq!(rt;
-        play_ring(alloc, &mut ring, RingOp::SetEventIdx(false)),
-        Err(PartsError::OutOfMemory)
-    );
-    ring.room = 1;
-    match play_table(alloc, &mut ring, &mut store.memory, TableRing::Take)? {
-        TableRingSaid::Taken {
-            epoch,
-            number,
-            chain,
-        } => {
-            let entry = Entry {
-                queue: 0,
-                epoch,
-                number,
-                chain,
-            };
-            let said = play_put(
-                alloc,
-                &mut ring,
-                &mut store.memory,
-                &mut store.host,
-                &entry,
-                &[],
-            );
-            assert_eq!(rt; said, Err(PartsError::OutOfMemory));
-        }
-        _ => assert!(rt; false),
-    }
-    assert_eq!(rt; store.memory.content(0).get(0x2002).copied(), Some(0));
     Ok(())
 }
 

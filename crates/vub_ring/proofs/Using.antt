@@ -9,7 +9,7 @@ use Rattle.vub_queue.specs.declared.chain.Chain.{Chain}
 use Rattle.vub_queue.specs.declared.putting.PutFault.{PutFault}
 use Rattle.vub_queue.specs.declared.putting.PutFault.TheVariants.{RoomOutside, RingOutside}
 use Rattle.vub_model.specs.RingRecord.{Vring, has_addresses}
-use Rattle.vub_vring.specs.Play.{put_found}
+use Rattle.vub_ring.specs.Play.{put_found}
 
 -- the tests in order
 abbrev tested : Bool → Bool → Bool → Bool → Result Bool PutFault

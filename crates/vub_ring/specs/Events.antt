@@ -4,8 +4,8 @@ use Rattle.vub_event.specs.declared.error.HostError.{HostError}
 use Rattle.vub_event.specs.declared.error.HostError.TheVariants.{WouldBlock, Failed}
 use Rattle.vub_event.specs.HostTable.{HostTable, event_at, with_event}
 use Rattle.vub_event.specs.HostCalls.{Meets, Done, due_of}
-use Rattle.vub_vring.specs.declared.ops.PartsError.{PartsError}
-use Rattle.vub_vring.specs.declared.ops.PartsError.TheVariants.{Fault}
+use Rattle.vub_ring.specs.declared.ops.PartsError.{PartsError}
+use Rattle.vub_ring.specs.declared.ops.PartsError.TheVariants.{Fault}
 use Rattle.vub_model.specs.Held.{raised_option, read_option}
 
 -- what would block counts as done

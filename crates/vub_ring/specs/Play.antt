@@ -1,13 +1,10 @@
 -- What the calls that play a step on lent parts say and leave, part by part: the ring, the guest's memory, the host's
--- table, a pending set. `Calls` says the same of all that is held.
-use Rattle.std.specs.Prelude.{◌≡◌, ◌⊎◌, ℕ, Bool, true, false, if◌then◌else◌, List, [], Option, Some, None, Result, Ok, Err}
+-- table, a pending set.
+use Rattle.std.specs.Prelude.{◌≡◌, ◌⊎◌, ℕ, Bool, true, false, if◌then◌else◌, List, [], sum_by, Option, Some, None, Result, Ok, Err}
 use Rattle.vub_base.specs.Told.{Told}
 use Rattle.vub_base.specs.Causes.{Rose}
 use Rattle.vub_mem.specs.Memory.{Guest}
 use Rattle.vub_event.specs.HostTable.{HostTable}
-use Rattle.vub_event.specs.HostCalls.{ReadyCall}
-use Rattle.vub_event.specs.declared.error.HostError.{HostError}
-use Rattle.vub_event.specs.declared.error.HostError.TheVariants as host_error
 use Rattle.vub_queue.specs.Function.{took_of}
 use Rattle.vub_queue.specs.Take.{guest_taken}
 use Rattle.vub_queue.specs.Put.{put_answer, put_guest, ring_used}
@@ -22,26 +19,20 @@ use Rattle.vub_model.specs.RingRecord.{Vring, ring_after, is_on, has_addresses}
 use Rattle.vub_model.specs.EntryNumber.{next_number}
 use Rattle.vub_model.specs.Held.{with_number, without_number}
 use Rattle.vub_model.specs.Work.{is_live, is_object}
-use Rattle.vub_vring.specs.Events.{table_raised, table_read}
-use Rattle.vub_vring.specs.Calls.{HostTableCall}
-use Rattle.vub_vring.specs.declared.ops.TableRing.{TableRing}
-use Rattle.vub_vring.specs.declared.ops.TableRing.TheVariants as table_ring
-use Rattle.vub_vring.specs.declared.ops.TableRingSaid.{TableRingSaid}
-use Rattle.vub_vring.specs.declared.ops.TableRingSaid.TheVariants as table_said
-use Rattle.vub_vring.specs.declared.ops.KickSaid.{KickSaid}
-use Rattle.vub_vring.specs.declared.ops.KickSaid.TheVariants.{Stale, Serve, Quiet}
-use Rattle.vub_vring.specs.declared.ops.PutSaid.{PutSaid}
-use Rattle.vub_vring.specs.declared.ops.PutSaid.TheVariants as put_said
-use Rattle.vub_vring.specs.declared.ops.PendOp.{PendOp}
-use Rattle.vub_vring.specs.declared.ops.PendOp.TheVariants as pend
-use Rattle.vub_vring.specs.declared.ops.PendSaid.{PendSaid}
-use Rattle.vub_vring.specs.declared.ops.PendSaid.TheVariants as pend_said
-use Rattle.vub_vring.specs.declared.ops.HostOp.{HostOp}
-use Rattle.vub_vring.specs.declared.ops.HostOp.TheVariants as host
-use Rattle.vub_vring.specs.declared.ops.HostSaid.{HostSaid}
-use Rattle.vub_vring.specs.declared.ops.HostSaid.TheVariants as said
-use Rattle.vub_vring.specs.declared.ops.PartsError.{PartsError}
-use Rattle.vub_vring.specs.declared.ops.PartsError.TheVariants as parts_error
+use Rattle.vub_ring.specs.Events.{table_raised, table_read}
+use Rattle.vub_ring.specs.declared.ops.TableRing.{TableRing}
+use Rattle.vub_ring.specs.declared.ops.TableRing.TheVariants as table_ring
+use Rattle.vub_ring.specs.declared.ops.TableRingSaid.{TableRingSaid}
+use Rattle.vub_ring.specs.declared.ops.TableRingSaid.TheVariants as table_said
+use Rattle.vub_ring.specs.declared.ops.KickSaid.{KickSaid}
+use Rattle.vub_ring.specs.declared.ops.KickSaid.TheVariants.{Stale, Serve, Quiet}
+use Rattle.vub_ring.specs.declared.ops.PutSaid.{PutSaid}
+use Rattle.vub_ring.specs.declared.ops.PutSaid.TheVariants as put_said
+use Rattle.vub_ring.specs.declared.ops.PendOp.{PendOp}
+use Rattle.vub_ring.specs.declared.ops.PendOp.TheVariants as pend
+use Rattle.vub_ring.specs.declared.ops.PendSaid.{PendSaid}
+use Rattle.vub_ring.specs.declared.ops.PendSaid.TheVariants as pend_said
+use Rattle.vub_ring.specs.declared.ops.PartsError.{PartsError}
 
 -- The host's table, where it is told: a call that was made leaves what the relation says, and one that was not leaves it
 -- as it was.
@@ -72,6 +63,11 @@ TakePlays (table_said.Damaged d) r g ring guest = (found g r ≡ took.Damaged d)
 
 abbrev pub TablePlays : TableRing → TableRingSaid → Vring → Guest → Vring → Guest → Type 0
 TablePlays table_ring.Take s r g ring guest = TakePlays s r g ring guest
+
+-- told or not, an entry that is taken has the room of its segments
+abbrev pub HasRoom : TableRingSaid → Type 0
+HasRoom (table_said.Taken epoch number c) = c.room ≡ sum_by (λ s. s.len) c.segments
+HasRoom s = Unit {0}
 
 -- Kick
 
@@ -125,19 +121,3 @@ PendPlays (pend.Insert n) pend_said.Done old new = new ≡ with_number old n
 PendPlays (pend.Remove n) pend_said.Done old new = new ≡ without_number old n
 PendPlays pend.TakeAll (pend_said.All numbers) old new = (numbers ≡ old) × (new ≡ [])
 PendPlays o s old new = ⊥
-
--- Host: any ready member is given
-abbrev pub HostPlays : HostOp → HostSaid → HostTable → HostTable → Type 0
-HostPlays (host.Ready list) (said.Ready ready) old new = ReadyCall list (Ok ready) old new
-HostPlays (host.Ready list) (said.Refused e) old new = ReadyCall list (Err e) old new
-HostPlays o s old new = HostTableCall o s old new
-
--- what a host answers, as a call of `Parts` says it: a fault and want of memory are no refusal
-abbrev pub said_refused : HostError → Result HostSaid PartsError
-said_refused host_error.Failed = Err parts_error.Fault
-said_refused host_error.OutOfMemory = Err parts_error.OutOfMemory
-said_refused e = Ok (said.Refused e)
-
-abbrev pub said_by : {T : Type 0} → (T → HostSaid) → Result T HostError → Result HostSaid PartsError
-said_by says (Ok x) = Ok (says x)
-said_by says (Err e) = said_refused e

@@ -11,7 +11,7 @@ use Rattle.vub_queue.specs.declared.took.Took.TheVariants as took
 use Rattle.vub_queue.proofs.Walks as walks
 use Rattle.vub_model.specs.RingRecord.{Vring}
 use Rattle.vub_model.specs.Work.{is_live}
-use Rattle.vub_vring.specs.Play.{found, guest_none, guest_found}
+use Rattle.vub_ring.specs.Play.{found, guest_none, guest_found}
 
 pub takes_some : (g : Guest) (r : Ring) → Taken g r (took_of g r)
 takes_some g r = walks.takes_some g r

@@ -1,21 +1,15 @@
 //! The steps of the machine on lent parts, for any ring that ops change, any log of dirty pages and any host.
-ghost use Rattle.std.specs.Prelude.{◌≡◌, ◌≤◌, ◌<◌, ◌⊎◌, [], ◌∷◌, true, IsSome, Ok, Err, IfOk, OnOk, OnErr, IsErrOf, length, sum_by};
-ghost use Rattle.vub_base.specs.Causes.{Rose};
+ghost use Rattle.std.specs.Prelude.{◌≡◌, ◌≤◌, ◌<◌, IsSome, Ok, Err, IfOk, OnOk, OnErr, IsErrOf, length, sum_by};
 ghost use Rattle.vub_base.specs.Told.{Told};
-ghost use Rattle.vub_event.specs.Errors.{RefusesBy};
 ghost use Rattle.vub_queue.specs.Function.{took_of};
 ghost use Rattle.vub_queue.specs.Take as take_specs;
-ghost use Rattle.vub_queue.specs.Put.{put_answer, put_guest, ring_used};
-ghost use Rattle.vub_queue.specs.Notification.{wants_notification, ring_told};
+ghost use Rattle.vub_queue.specs.Put.{put_guest};
 ghost use Rattle.vub_model.specs.RingRecord.{ring_said, ring_after};
-ghost use Rattle.vub_vring.specs.Calls.{HasRoom, IsSaid};
-ghost use Rattle.vub_vring.specs.Faults.{CountsFaults};
-ghost use Rattle.vub_vring.specs.Play.{found, guest_found, OnTable, TablePlays, TakePlays, kick_said, KickTable, put_found, PutPlays, table_put, table_called, table_wanted, CallsIf, PutTable, PendPlays, HostPlays};
+ghost use Rattle.vub_ring.specs.Faults.{CountsFaults};
+ghost use Rattle.vub_ring.specs.Play.{found, guest_found, HasRoom, OnTable, TablePlays, TakePlays, kick_said, KickTable, put_found, PutPlays, table_put, table_called, table_wanted, CallsIf, PutTable, PendPlays};
 
 use crate::events::{raise_anyway, read_anyway};
-use crate::ops::{
-    HostOp, HostSaid, KickSaid, PartsError, PendOp, PendSaid, PutSaid, TableRing, TableRingSaid,
-};
+use crate::ops::{KickSaid, PartsError, PendOp, PendSaid, PutSaid, TableRing, TableRingSaid};
 use crate::pending::Pending;
 use crate::ring_state::RingState;
 use crate::state::VringState;
@@ -24,7 +18,7 @@ use std::marker::Brand;
 use std::mem;
 use std::sync::ledger::{Blank, Ledger};
 use vub_base::{OutOfMemory, Steps};
-use vub_event::{Host, HostError};
+use vub_event::Host;
 use vub_mem::{DirtyLog, GuestMemory};
 use vub_model::{Entry, RingOp, RingSaid};
 use vub_queue::{Chain, PutFault, Queue, Took, put, take};

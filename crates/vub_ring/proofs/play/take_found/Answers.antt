@@ -1,6 +1,6 @@
 use Rattle.std.proofs.Common.{◌∙◌, sym}
-use Rattle.vub_vring.proofs.Takes.{found_in, found_off, guest_in, guest_off}
-use Rattle.vub_vring.proofs.play.take_found.Goals as goal
+use Rattle.vub_ring.proofs.Takes.{found_in, found_off, guest_in, guest_off}
+use Rattle.vub_ring.proofs.play.take_found.Goals as goal
 
 pub returns-then-not-is_live-clause-took : goal.returns-then-not-is_live-clause-took
 returns-then-not-is_live-clause-took g c = found_off c.args.memory.now.guest c.args.ring.now (sym c.is_live.ensures ∙ c.if-not-is_live.true)

@@ -1,7 +1,7 @@
 use Rattle.std.proofs.Common.{◌≡◌, ◌∙◌, true, rules}
 use Rattle.vub_model.specs.RingRecord.{has_addresses}
-use Rattle.vub_vring.proofs.Using.{put_in}
-use Rattle.vub_vring.proofs.play.put_found.Goals as goal
+use Rattle.vub_ring.proofs.Using.{put_in}
+use Rattle.vub_ring.proofs.play.put_found.Goals as goal
 
 pub returns-clause-answer : goal.returns-clause-answer
 returns-clause-answer g c =

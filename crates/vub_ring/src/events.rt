@@ -3,9 +3,9 @@ ghost use Rattle.std.specs.Prelude.{◌≡◌, [], ◌∷◌, IsErrOf};
 ghost use Rattle.vub_base.specs.Told.{Told};
 ghost use Rattle.vub_event.specs.Errors.{RefusesBy};
 ghost use Rattle.vub_event.specs.Faults.{CountsFaults};
-ghost use Rattle.vub_vring.specs.Events.{settled, unless_failed, table_raised, table_read, RaisesEvent, ReadsEvent};
-ghost use Rattle.vub_vring.specs.Faults.{CountsFaults as CountsPartsFaults};
-ghost use Rattle.vub_vring.specs.Play.{OnTable};
+ghost use Rattle.vub_ring.specs.Events.{settled, unless_failed, table_raised, table_read, RaisesEvent, ReadsEvent};
+ghost use Rattle.vub_ring.specs.Faults.{CountsFaults as CountsPartsFaults};
+ghost use Rattle.vub_ring.specs.Play.{OnTable};
 
 use crate::ops::PartsError;
 use vub_event::{Host, HostError};
@@ -62,7 +62,7 @@ fn unless_failed(answer: Result<(), HostError>) -> Result<(), PartsError>
 /// # Errors
 /// `Fault` only where the host's count of faults rose; nothing changes.
 #[tactic(auto, using(crate::proofs::Settling::told_raised, crate::proofs::Settling::counts_unless_failed))]
-pub(crate) fn raise_anyway<H: Host>(host: &mut H, object: u32) -> Result<(), PartsError>
+pub fn raise_anyway<H: Host>(host: &mut H, object: u32) -> Result<(), PartsError>
     ensures table { OnTable result (H.held host.old) (H.held host.new) (λ done old new. new ≡ table_raised old object) }
     ensures faults { CountsPartsFaults (H.fault_count host.old) (H.fault_count host.new) (H.never_fails host.old) (H.never_fails host.new) result }
     ensures only { ¬ (IsErrOf result PartsError.OutOfMemory) }

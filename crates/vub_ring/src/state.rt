@@ -1,4 +1,4 @@
-ghost use Rattle.std.specs.Prelude.{◌≡◌, ◌^◌, ◌<◌, ◌||◌, [], ◌∷◌, if◌then◌else◌, Option, Some, None, Result, Ok, Err, IsSome, OnOk, OnErr, is_some};
+ghost use Rattle.std.specs.Prelude.{◌≡◌, ◌^◌, ◌<◌, ◌||◌, [], ◌∷◌, if◌then◌else◌, Option, Some, None, Result, Ok, Err, IsSome, OnOk, OnErr};
 ghost use Rattle.std.specs.Borrow.{sem};
 ghost use Rattle.std.specs.Result.{is_ok};
 ghost use Rattle.std.specs.Int.{w16, is_power_of_two};
@@ -16,7 +16,7 @@ ghost use Rattle.vub_model.specs.RingRecord.{is_in_flight, is_on, needs_no_fligh
 ghost use Rattle.vub_model.specs.EntryNumber.{next_number};
 ghost use Rattle.vub_model.specs.Opening.{new_vring};
 ghost use Rattle.vub_model.specs.Work.{is_live, is_object};
-ghost use Rattle.vub_vring.specs.State.{LendsQueue, sized, changed_if, SignalsCall, ReadsKick};
+ghost use Rattle.vub_ring.specs.State.{LendsQueue, sized, changed_if, SignalsCall, ReadsKick};
 
 use crate::events::{raise, read};
 use std::marker::Model;

@@ -2,8 +2,8 @@
 -- it rose. Parts over a host that has no call to fail never answer Fault.
 use Rattle.std.specs.Prelude.{ℕ, Result, IsErrOf}
 use Rattle.vub_base.specs.Causes.{HasCause}
-use Rattle.vub_vring.specs.declared.ops.PartsError.{PartsError}
-use Rattle.vub_vring.specs.declared.ops.PartsError.TheVariants.{Fault}
+use Rattle.vub_ring.specs.declared.ops.PartsError.{PartsError}
+use Rattle.vub_ring.specs.declared.ops.PartsError.TheVariants.{Fault}
 
 -- the counts before and now; `Sound` and `StillSound` say that there was and is no call to fail
 pub record CountsFaults {T : Type 0} (before now : ℕ) (Sound StillSound : Type 0) (result : Result T PartsError) : Type 0 where

@@ -12,11 +12,11 @@ use Rattle.vub_event.specs.HostTable.{HostTable, event_at, with_event}
 use Rattle.vub_event.specs.HostCalls.{Meets, Done, due_of, with_change, value_of, SignalCall, ConsumeCall, signal_refusal, signal_after, consume_refusal, consume_value, consume_after}
 use Rattle.vub_event.specs.Counter.{write_refusal, written, read_refusal, read_value, after_read}
 use Rattle.vub_model.specs.Held.{raised_event, raised_option, read_option}
-use Rattle.vub_vring.specs.Faults.{CountsFaults as CountsPartsFaults}
-use Rattle.vub_vring.specs.Play.{OnTable, CallsIf, table_called, table_wanted}
-use Rattle.vub_vring.specs.declared.ops.PartsError.{PartsError}
-use Rattle.vub_vring.specs.declared.ops.PartsError.TheVariants.{Fault, OutOfMemory as Lacking}
-use Rattle.vub_vring.specs.Events.{settled, unless_failed, table_raised, table_read, RaisesEvent, ReadsEvent}
+use Rattle.vub_ring.specs.Faults.{CountsFaults as CountsPartsFaults}
+use Rattle.vub_ring.specs.Play.{OnTable, CallsIf, table_called, table_wanted}
+use Rattle.vub_ring.specs.declared.ops.PartsError.{PartsError}
+use Rattle.vub_ring.specs.declared.ops.PartsError.TheVariants.{Fault, OutOfMemory as Lacking}
+use Rattle.vub_ring.specs.Events.{settled, unless_failed, table_raised, table_read, RaisesEvent, ReadsEvent}
 
 pub told-map : {A : Type 0} (old new : Option A) (R S : A → A → Type 0) → ((a b : A) → R a b → S a b) → Told old new R → Told old new S
 told-map None new R S f h = tt

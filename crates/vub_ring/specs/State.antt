@@ -10,8 +10,8 @@ use Rattle.vub_queue.specs.Settings.{size_answer}
 use Rattle.vub_queue.specs.contracts.Queue.{the_row as queue_row}
 use Rattle.vub_model.specs.RingRecord.{Vring, fits, changed}
 use Rattle.vub_model.specs.declared.ring_op.RingOp.{RingOp}
-use Rattle.vub_vring.specs.Events.{RaisesEvent, missing, table_read}
-use Rattle.vub_vring.specs.contracts.state.VringState.{the_row}
+use Rattle.vub_ring.specs.Events.{RaisesEvent, missing, table_read}
+use Rattle.vub_ring.specs.contracts.state.VringState.{the_row}
 
 -- the ring ends with the last value of the queue that was lent
 abbrev pub LendsQueue : MutBor Vring → MutBor Ring → Fml

@@ -1,0 +1,5 @@
+pub mod Events
+pub mod Faults
+pub mod Pending
+pub mod Play
+pub mod State
