@@ -45,5 +45,6 @@ cut-short {V} m schedule labels now w z index end within count so same value =
       closing = z;
       within = omega (arith, count);
       is_run = (let R : ℕ → Type 0 = λ n. IsRun m (take n schedule) labels w z in subst R (sym count) so.is_run);
+      least = (let L : ℕ → Type 0 = λ n. PollsLeast m (take n schedule) labels w in subst L (sym count) so.least);
       value = value;
     })

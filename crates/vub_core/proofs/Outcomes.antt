@@ -70,13 +70,29 @@ module _ {V : Type 0} (m : Meaning V) (k : Constants) (setup : Setup) (v : V) wh
 
   -- want of memory before the first turn
   pub none-played : (schedule : List ℕ) (end : V) → end ≡ v → (opening k setup v).held.service ≡ v → IsCutShort m k setup schedule v end 0
-  none-played schedule end same opened = record { labels = []; closing = opening k setup v; within = omega arith; is_run = refl; value = same ∙ sym opened }
+  none-played schedule end same opened = record {
+    valid = λ some. absurd (omega (arith, some));
+    labels = [];
+    closing = opening k setup v;
+    within = omega arith;
+    is_run = refl;
+    least = tt;
+    value = same ∙ sym opened;
+  }
 
   -- want of memory at a turn
-  pub some-played : (schedule : List ℕ) (labels : List Label) (end : V) (done : ℕ) → done ≡ length labels → WasCutShort m schedule labels (opening k setup v) end → IsCutShort m k setup schedule v end done
-  some-played schedule labels end done is so =
+  pub some-played : (schedule : List ℕ) (labels : List Label) (end : V) (done : ℕ) → IsValid k setup → done ≡ length labels → WasCutShort m schedule labels (opening k setup v) end → IsCutShort m k setup schedule v end done
+  some-played schedule labels end done valid is so =
       let P : ℕ → Type 0 = λ n. IsCutShort m k setup schedule v end n in
-      subst P (sym is) (record { labels = labels; closing = so.closing; within = so.within; is_run = so.is_run; value = so.value })
+      subst P (sym is) (record {
+        valid = λ some. valid;
+        labels = labels;
+        closing = so.closing;
+        within = so.within;
+        is_run = so.is_run;
+        least = so.least;
+        value = so.value;
+      })
 
 run-length : {V : Type 0} (m : Meaning V) (turns : List ℕ) (labels : List Label) (w z : World V) → IsRun m turns labels w z → length labels ≡ length turns
 run-length m [] [] w z run = refl
@@ -85,15 +101,17 @@ run-length m (turn ∷ turns) [] w z run = absurd run
 run-length m (turn ∷ turns) (l ∷ labels) w z run = (let rest = run-length m turns labels run.0 z run.2 in omega arith)
 
 -- want of memory behind the last turn
-pub end-played : {V : Type 0} (m : Meaning V) (k : Constants) (setup : Setup) (v : V) (schedule : List ℕ) (labels : List Label) (closing : World V) (end : V) (done : ℕ) → done ≡ length labels → HasPlayed m schedule labels (opening k setup v) closing → end ≡ closing.held.service → IsCutShort m k setup schedule v end done
-end-played {V} m k setup v schedule labels closing end done is so value =
+pub end-played : {V : Type 0} (m : Meaning V) (k : Constants) (setup : Setup) (v : V) (schedule : List ℕ) (labels : List Label) (closing : World V) (end : V) (done : ℕ) → IsValid k setup → done ≡ length labels → HasPlayed m schedule labels (opening k setup v) closing → end ≡ closing.held.service → IsCutShort m k setup schedule v end done
+end-played {V} m k setup v schedule labels closing end done valid is so value =
     let long = run-length m schedule labels (opening k setup v) closing so.is_run in
     let whole : take done schedule ≡ schedule = take_all done schedule (omega arith) in
     record {
+      valid = λ some. valid;
       labels = labels;
       closing = closing;
       within = omega arith;
       is_run = (let R : List ℕ → Type 0 = λ ts. IsRun m ts labels (opening k setup v) closing in subst R (sym whole) so.is_run);
+      least = (let L : List ℕ → Type 0 = λ ts. PollsLeast m ts labels (opening k setup v) in subst L (sym whole) so.least);
       value = value;
     }
 

@@ -1,5 +1,6 @@
 -- The maximal runs of written bytes, one run after the other.
-use Rattle.std.proofs.Common.{◌≡◌, ◌≢◌, ℕ, zero, suc, ◌+◌, ◌-◌, ◌<◌, ◌≤◌, ◌⊎◌, inl, inr, Bool, true, false, List, [], ◌∷◌, ◌++◌, refl, sym, ap, subst, ◌∙◌, arith, length, get_or, take, drop, eqb, cond, append_assoc, length-drop}
+use Rattle.std.proofs.Common.{◌≡◌, ◌≢◌, ℕ, zero, suc, ◌+◌, ◌-◌, ◌<◌, ◌≤◌, ◌⊎◌, inl, inr, Bool, true, false, List, [], ◌∷◌, ◌++◌, refl, sym, ap, subst, ◌∙◌, arith, length, get_or, take, drop, eqb, cond, append_assoc, append-nil, length-drop}
+use Rattle.std.specs.List.{list_any}
 use Rattle.std.proofs.lemmas.List.{drop-drop, drop_all, drop_more}
 use Rattle.std.proofs.lemmas.Bool.{cond-true, cond-false, ne_eqb, eq-eqb}
 use Rattle.vub_model.specs.declared.records.Span.{Span}
@@ -94,6 +95,22 @@ push_run all flags number at end content spans next goal s is run span push so =
 pub pass_byte : (all : List (List Bool)) (flags : List Bool) (number at : ℕ) (content : List ℕ) (spans goal : List Span) → get_or all number [] ≡ flags → get_or flags at false ≡ false → at < length content → spans ++ spans_in all number at (drop at content) ≡ goal → spans ++ spans_in all number (at + 1) (drop (at + 1) content) ≡ goal
 pass_byte all flags number at content spans goal is none within so =
     ap (λ l. spans ++ l) (sym (skip all number at (get_or content at 0) (drop (at + 1) content) (ap (λ f. get_or f at false) is ∙ none)) ∙ ap (λ l. spans_in all number at l) (sym (drop_more content at 0 within))) ∙ so
+
+-- a content with no byte written
+none-there : (flags : List Bool) (place : ℕ) → list_any (λ flag. flag) flags ≡ false → get_or flags place false ≡ false
+none-there [] place none = refl
+none-there (true ∷ flags) place none = absurd cc
+none-there (false ∷ flags) zero none = refl
+none-there (false ∷ flags) (suc place) none = none-there flags place none
+
+no-spans : (all : List (List Bool)) (number offset : ℕ) (bytes : List ℕ) → ((place : ℕ) → is_written all number place ≡ false) → spans_in all number offset bytes ≡ []
+no-spans all number offset [] none = refl
+no-spans all number offset (byte ∷ bytes) none = skip all number offset byte bytes (none offset) ∙ no-spans all number (offset + 1) bytes none
+
+pub push_none : (all : List (List Bool)) (flags : List Bool) (number : ℕ) (content : List ℕ) (spans : List Span) → get_or all number [] ≡ flags → list_any (λ flag. flag) flags ≡ false → spans ≡ spans ++ spans_in all number 0 content
+push_none all flags number content spans is none =
+    let no = no-spans all number 0 content (λ place. ap (λ f. get_or f place false) is ∙ none-there flags place none) in
+    sym (append-nil spans) ∙ ap (λ l. spans ++ l) (sym no)
 
 -- the loop over the contents
 pub next_content : (all : List (List Bool)) (g : Guest) (objects : List Object) (number : ℕ) (d : Object) (spans next goal : List Span) → number < length objects → spans ++ spans_from all g number (drop number objects) ≡ goal → next ≡ spans ++ spans_in all number 0 (content_of g.contents number) → next ++ spans_from all g (number + 1) (drop (number + 1) objects) ≡ goal

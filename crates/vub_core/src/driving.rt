@@ -13,15 +13,13 @@ use crate::finish::finish;
 use crate::machine::Machine;
 use crate::opening::open;
 use crate::playing::play;
+use crate::testing::NO_MEMORY;
 use std::alloc::Global;
 use vub_model::{Constants, DriveFault, Run, Setup};
 use vub_proto::{Service, VhostUserBackendMut};
 
 /// Turns are fewer than this: the labels of more would not fit into memory.
 const MOST_TURNS: usize = 1 << 60;
-
-/// Want of memory before the first turn.
-const NO_MEMORY: DriveFault = DriveFault::OutOfMemory { done: 0 };
 
 /// Plays a schedule on a machine that was opened.
 fn play_opened<V: Service>(
@@ -45,10 +43,7 @@ fn play_opened<V: Service>(
     }
     let mut machine = machine;
     let guest = setup.guest.as_slice();
-    let mut labels = match Vec::with_capacity(alloc, schedule.len()) {
-        Ok(labels) => labels,
-        Err(_) => return Err(NO_MEMORY),
-    };
+    let mut labels = Vec::new(alloc);
     match play(
         alloc,
         &mut machine,
@@ -88,7 +83,8 @@ fn play_opened<V: Service>(
 ///
 /// # Errors
 /// The first test of `SetupFault` that the set-up fails, and then the service was not asked; or want of memory, where
-/// `done` turns are finished, the refused step has changed nothing, and the service is as those turns left it.
+/// `done` turns are finished, and the service is as those turns left it. The turn at which memory was refused does not
+/// count, and nothing of it is to be seen.
 pub fn drive<D: VhostUserBackendMut, V: Service>(
     alloc: Global,
     setup: &Setup,

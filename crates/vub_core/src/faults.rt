@@ -1,7 +1,8 @@
 //! The tests of a set-up, but for the one of its region table.
 ghost use Rattle.std.specs.Prelude.{◌≡◌, not, position, take, [], is_some};
 ghost use Rattle.std.specs.List.{list_all};
-ghost use Rattle.vub_model.specs.ValidSetup.{is_event, is_event_or_none, content_len, exit_fault, device_fault, region_fault, is_aligned, is_number, is_free, is_free_or_none, is_first_of_queue, ring_is_sound, ring_fault, is_possible, first_impossible, guest_fault};
+ghost use Rattle.vub_model.specs.Work.{is_object};
+ghost use Rattle.vub_model.specs.ValidSetup.{is_event, is_event_or_none, content_len, exit_fault, device_fault, region_fault, is_aligned, is_free, is_free_or_none, is_first_of_queue, ring_is_sound, ring_fault, is_possible, first_impossible, guest_fault};
 
 use vub_model::{Constants, GivenRegion, GivenRing, Guest, Info, Object, SetupFault};
 
@@ -102,9 +103,9 @@ fn is_aligned(info: Option<Info>) -> bool
     }
 }
 
-/// Whether this is that number.
-fn is_number(object: Option<u32>, number: u32) -> bool
-    ensures { result ≡ is_number object number }
+/// Whether this is the object.
+fn is_object(object: Option<u32>, number: u32) -> bool
+    ensures { result ≡ is_object object number }
 {
     match object {
         None => false,
@@ -114,16 +115,16 @@ fn is_number(object: Option<u32>, number: u32) -> bool
 
 /// Whether the event is no kick of these rings.
 fn is_no_kick(earlier: &[GivenRing], number: u32) -> bool
-    ensures { result ≡ list_all (λ ring. not (is_number ring.kick number)) earlier.now }
+    ensures { result ≡ list_all (λ ring. not (is_object ring.kick number)) earlier.now }
 {
-    earlier.iter().all(|ring| !is_number(ring.kick, number))
+    earlier.iter().all(|ring| !is_object(ring.kick, number))
 }
 
 /// Whether the event is no exit object.
 fn is_no_exit(exits: &[Option<u32>], number: u32) -> bool
-    ensures { result ≡ list_all (λ exit. not (is_number exit number)) exits.now }
+    ensures { result ≡ list_all (λ exit. not (is_object exit number)) exits.now }
 {
-    exits.iter().all(|exit| !is_number(*exit, number))
+    exits.iter().all(|exit| !is_object(*exit, number))
 }
 
 /// Whether none of these rings has this queue.

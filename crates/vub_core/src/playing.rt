@@ -45,7 +45,8 @@ fn turn<V: Service>(
 /// Plays a schedule, and appends the label of each turn.
 ///
 /// # Errors
-/// Want of memory: the turns whose labels are there are finished, and the service is as they left it.
+/// Want of memory: the turns whose labels are there are finished, and the service is as they left it. The machine may have
+/// made a further step that could not be recorded, which was none of the service.
 pub(crate) fn play<V: Service>(
     alloc: Global,
     machine: &mut Machine,

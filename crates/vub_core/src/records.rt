@@ -132,6 +132,9 @@ impl Records {
 
     /// Records a worker's step of this label, which could write the words of the footprint, ended in this phase and
     /// finished this entry.
+    ///
+    /// # Errors
+    /// Want of memory, at a step that took or finished an entry. The record of the step is lost then.
     pub fn record(
         &mut self,
         alloc: Global,

@@ -1,4 +1,5 @@
 ghost use Rattle.std.specs.Prelude.{◌≡◌, ◌<◌, ◌≤◌, ◌++◌, ◌-◌, ◌^◌, List, Bool, true, false, [], length, slice_index_or, take, drop, OnOk, IfOk};
+ghost use Rattle.std.specs.List.{list_any};
 ghost use Rattle.vub_mem.specs.Place.{content_of};
 ghost use Rattle.vub_model.specs.RunRecords.{spans_in, spans_from};
 ghost use Rattle.vub_core.specs.Runs.{IsRun};
@@ -73,6 +74,30 @@ fn push_runs(
     Ok(())
 }
 
+/// Whether a byte was written.
+fn has_flag(flags: &[bool]) -> bool
+    ensures { result ≡ list_any (λ flag. flag) flags.now }
+{
+    flags.iter().any(|flag| *flag)
+}
+
+/// Appends the runs of written bytes of an object. Its content is looked up only where a byte was written.
+fn push_content(
+    alloc: Global,
+    spans: &mut Vec<Span>,
+    object: u32,
+    flags: &[bool],
+    memory: &GuestMemory<()>,
+) -> Result<(), OutOfMemory>
+    ensures { (all : List (List Bool)) → slice_index_or all object [] ≡ flags.now → OnOk result (spans.new.items ≡ spans.old.items ++ spans_in all object 0 (content_of memory.now.guest.contents object)) }
+{
+    if has_flag(flags) {
+        push_runs(alloc, spans, object, flags, memory.content(object))
+    } else {
+        Ok(())
+    }
+}
+
 /// The runs of bytes that were written, by object and offset, with what stands there.
 pub(crate) fn spans_of(
     alloc: Global,
@@ -86,7 +111,7 @@ pub(crate) fn spans_of(
     let mut spans = Vec::new(alloc);
     for number in 0..objects.len() as u32 {
         let flags = written.of(number as usize);
-        push_runs(alloc, &mut spans, number, flags, memory.content(number))?;
+        push_content(alloc, &mut spans, number, flags, memory)?;
     }
     Ok(spans)
 }

@@ -70,10 +70,10 @@ fn play_worker<V: Service>(
     }
 }
 
-/// This worker plays the step that it has.
+/// This worker plays the step that it has, and the machine records it.
 ///
 /// # Errors
-/// Want of memory leaves the service as it was.
+/// Want of memory leaves the service as it was. The step may have been made and not recorded.
 pub(crate) fn worker_turn<V: Service>(
     alloc: Global,
     machine: &mut Machine,

@@ -19,10 +19,10 @@ use Rattle.vub_model.specs.declared.cause.StopCause.TheVariants.{Exit}
 use Rattle.vub_model.specs.RingRecord.{is_on}
 use Rattle.vub_model.specs.Frame.{Frame, frame_of}
 use Rattle.vub_model.specs.Held.{Held, ring_at, pending_at, has_number, token_in, swept}
-use Rattle.vub_model.specs.Wiring.{Wiring, opened_at, queues_of}
+use Rattle.vub_model.specs.Wiring.{Wiring, opened_at, queues_of, IsPlaced, HasWorker}
 use Rattle.vub_model.specs.Service.{Meaning}
 use Rattle.vub_model.specs.Work.{MayWork, after_work, serving, queues_numbered, is_live, after_none, used, called}
-use Rattle.vub_model.specs.Schedule.{IsPlaced, IsNumber, HasWorker, IsOwn, list_at, list_of, PhaseFits}
+use Rattle.vub_model.specs.Schedule.{IsNumber, IsOwn, list_at, list_of, PhaseFits}
 use Rattle.vub_model.proofs.Places.{slot}
 use Rattle.vub_model.proofs.WorkSteps.{work-cases, event-leaf, take-leaf, put-leaf}
 
@@ -66,14 +66,14 @@ pub list-of-serving : (queues : List ℕ) → list_of (serving queues) ≡ queue
 list-of-serving [] = refl
 list-of-serving (q ∷ queues) = refl
 
-serving-fits : (g : Wiring) (worker : ℕ) (queues : List ℕ) → AllByRecursion (HasWorker g worker) queues → PhaseFits g worker (serving queues)
+serving-fits : (g : Wiring) (worker : ℕ) (queues : List ℕ) → AllByRecursion (λ q. HasWorker g q worker) queues → PhaseFits g worker (serving queues)
 serving-fits g worker [] all = tt
 serving-fits g worker (q ∷ queues) all = all
 
 abbrev AllNumbers : Wiring → ℕ → List ℕ → Type 0
 AllNumbers g worker numbers = (n : ℕ) → has_number n numbers ≡ true → IsNumber g worker n
 
-swept-fits : (g : Wiring) (worker : ℕ) (numbers : List ℕ) → AllNumbers g worker numbers → AllByRecursion (HasWorker g worker) (queues_numbered (queues_of g worker) numbers)
+swept-fits : (g : Wiring) (worker : ℕ) (numbers : List ℕ) → AllNumbers g worker numbers → AllByRecursion (λ q. HasWorker g q worker) (queues_numbered (queues_of g worker) numbers)
 swept-fits g worker [] all = tt
 swept-fits g worker (n ∷ numbers) all = by (nat_lt n (length (queues_of g worker))) (swept-fits g worker numbers (λ m has. all m (more m has))) where
   more : (m : ℕ) → has_number m numbers ≡ true → has_number m (n ∷ numbers) ≡ true
@@ -82,13 +82,13 @@ swept-fits g worker (n ∷ numbers) all = by (nat_lt n (length (queues_of g work
   here : has_number n (n ∷ numbers) ≡ true
   here = grind arith
 
-  worker-of : HasWorker g worker (slice_index (queues_of g worker) n)
+  worker-of : HasWorker g (slice_index (queues_of g worker) n) worker
   worker-of =
       let number = all n here in
       let P : ℕ → Type 0 = λ q. IsPlaced g q worker n in
       (n, subst P (sym (slot g number.0 worker n number.1).1) number.1)
 
-  by : (b : Bool) → AllByRecursion (HasWorker g worker) (queues_numbered (queues_of g worker) numbers) → AllByRecursion (HasWorker g worker) (map (λ n. slice_index (queues_of g worker) n) (cond b (n ∷ filter (λ n. nat_lt n (length (queues_of g worker))) numbers) (filter (λ n. nat_lt n (length (queues_of g worker))) numbers)))
+  by : (b : Bool) → AllByRecursion (λ q. HasWorker g q worker) (queues_numbered (queues_of g worker) numbers) → AllByRecursion (λ q. HasWorker g q worker) (map (λ n. slice_index (queues_of g worker) n) (cond b (n ∷ filter (λ n. nat_lt n (length (queues_of g worker))) numbers) (filter (λ n. nat_lt n (length (queues_of g worker))) numbers)))
   by true rest = (worker-of, rest)
   by false rest = rest
 

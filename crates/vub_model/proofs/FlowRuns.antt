@@ -1,5 +1,5 @@
 -- Flow, the replay of the service and the headline hold along every run.
-use Rattle.std.proofs.Common.{◌≡◌, ℕ, ◌<◌, Bool, true, false, List, [], ◌∷◌, ◌++◌, length, map, Option, Some, None, refl, sym, ap, ◌∙◌, subst, arith, append_assoc}
+use Rattle.std.proofs.Common.{◌≡◌, ℕ, ◌<◌, inl, inr, Bool, true, false, List, [], ◌∷◌, ◌++◌, length, map, Option, Some, None, refl, sym, ap, ◌∙◌, subst, arith, append_assoc}
 use Rattle.std.proofs.lemmas.List.{append-nil}
 use Rattle.vub_proto.specs.declared.used.Used.{Used}
 use Rattle.vub_model.specs.declared.entry.Entry.{Entry}
@@ -16,14 +16,15 @@ use Rattle.vub_model.specs.declared.setup.Guest.{Guest}
 use Rattle.vub_model.specs.declared.setup.Guest.TheVariants.{Store, Signal}
 use Rattle.vub_model.specs.Held.{Held, ring_at}
 use Rattle.vub_model.specs.Service.{Meaning}
-use Rattle.vub_model.specs.Wiring.{Wiring}
+use Rattle.vub_model.specs.Wiring.{Wiring, HasWorker}
 use Rattle.vub_model.specs.Work.{Local, MayWork, after_work, after_take, after_put, after_said, after_sweep, called, used, put_said}
 use Rattle.vub_model.specs.World.{World, May, after, after_guest, after_local, phase_at, take_of, used_of}
 use Rattle.vub_model.specs.RunOf.{IsRun, Turn, next, party_of}
+use Rattle.vub_model.specs.Running.{InHand, InFlightOrHeld}
 use Rattle.vub_model.specs.Headline.{Asked, asked_take, takes_of, uses_of, asked_of, asked_at, asked, OnceInOrder, IsReplay, IsServed, IsFresh, IsWaiting}
 use Rattle.vub_model.proofs.Cases.{work-cases, event-held, take-leaf, none-leaf, said-cases}
 use Rattle.vub_model.proofs.Turns.{turn-cases, turn-next}
-use Rattle.vub_model.proofs.Owners.{Owned, OwnPhase, own-turn, fresh-owned, within-phases}
+use Rattle.vub_model.proofs.Owners.{Owned, OwnPhase, own-turn, own-run, fresh-owned, within-phases}
 use Rattle.vub_model.proofs.Flow.{Flow, FlowAt, FliesIn, NoneFlies, queue_in}
 use Rattle.vub_model.proofs.FlowSteps.{asked_by, quiet, event, take, serve, put, serving-none}
 use Rattle.vub_model.proofs.Numbers.{number-run, fresh-numbered}
@@ -82,15 +83,28 @@ flow-run m (turn ∷ turns) (l ∷ labels) w z calls flow owned run =
 
 -- One queue
 
-flies-once : (q : ℕ) (phase : Phase) (takes : List Take) (calls : List Asked) (uses : List Used) → FliesIn q phase takes calls uses → OnceInOrder takes calls uses
-flies-once q (Taken e queues) takes calls uses f = record { unasked = take_of e ∷ []; unused = []; served = f.1; used = f.2 ∙ sym (append-nil uses); at_most_one = omega arith }
-flies-once q (Served e reply queues) takes calls uses f = record { unasked = []; unused = used_of e reply ∷ []; served = f.1 ∙ sym (append-nil (map asked_take calls)); used = f.2; at_most_one = omega arith }
-flies-once q phase takes calls uses f = absurd f
+-- a queue's entries went their way, but for one in flight or held
+abbrev Goes : {V : Type 0} → World V → ℕ → List Take → List Asked → List Used → Type 0
+Goes w q takes calls uses = (way : OnceInOrder takes calls uses) × InFlightOrHeld w q way.unasked way.unused
 
-flow-once : (g : Wiring) (q : ℕ) (f : Flight) (phases : ℕ → Phase) (takes : List Take) (calls : List Asked) (uses : List Used) → FlowAt g q f phases takes calls uses → OnceInOrder takes calls uses
-flow-once g q flight.None phases takes calls uses flow = record { unasked = []; unused = []; served = flow.0 ∙ sym (append-nil (map asked_take calls)); used = flow.1 ∙ sym (append-nil uses); at_most_one = omega arith }
-flow-once g q flight.Held phases takes calls uses flow = record { unasked = []; unused = flow.1.0 ∷ []; served = flow.0 ∙ sym (append-nil (map asked_take calls)); used = flow.1.1; at_most_one = omega arith }
-flow-once g q flight.InFlight phases takes calls uses flow = flies-once q (phases flow.0) takes calls uses flow.1
+module _ {V : Type 0} (w : World V) (owned : Owned w) (q : ℕ) (takes : List Take) (calls : List Asked) (uses : List Used) where
+  flies-goes : (k : ℕ) (phase : Phase) → phase_at w.phases k ≡ phase → OwnPhase w.wiring k phase → FliesIn q phase takes calls uses → Goes w q takes calls uses
+  flies-goes k (Taken e queues) is own f =
+      let way : OnceInOrder takes calls uses = record { unasked = take_of e ∷ []; unused = []; served = f.1; used = f.2 ∙ sym (append-nil uses); at_most_one = omega arith } in
+      let H : Phase → Type 0 = λ p. InHand p (take_of e ∷ []) [] in
+      (way, (k, subst (λ n. HasWorker w.wiring n k) f.0 own.0, subst H (sym is) refl))
+  flies-goes k (Served e reply queues) is own f =
+      let way : OnceInOrder takes calls uses = record { unasked = []; unused = used_of e reply ∷ []; served = f.1 ∙ sym (append-nil (map asked_take calls)); used = f.2; at_most_one = omega arith } in
+      let H : Phase → Type 0 = λ p. InHand p [] (used_of e reply ∷ []) in
+      (way, inl (k, subst (λ n. HasWorker w.wiring n k) f.0 own.0, subst H (sym is) refl))
+  flies-goes k phase is own f = absurd f
+
+  flow-goes : (f : Flight) → (ring_at w.held q).flight ≡ f → FlowAt w.wiring q f (phase_at w.phases) takes calls uses → Goes w q takes calls uses
+  flow-goes flight.None is flow = (record { unasked = []; unused = []; served = flow.0 ∙ sym (append-nil (map asked_take calls)); used = flow.1 ∙ sym (append-nil uses); at_most_one = omega arith }, tt)
+  flow-goes flight.Held is flow =
+      let way : OnceInOrder takes calls uses = record { unasked = []; unused = flow.1.0 ∷ []; served = flow.0 ∙ sym (append-nil (map asked_take calls)); used = flow.1.1; at_most_one = omega arith } in
+      (way, inr (record { flight = is; worker = flow.3.0; has = flow.3.1; stopped = flow.3.2 }))
+  flow-goes flight.InFlight is flow = flies-goes flow.0 (phase_at w.phases flow.0) refl (owned.phases flow.0) flow.1
 
 waiting-none : (phase : Phase) → IsWaiting phase → queue_in phase ≡ None
 waiting-none Idle waits = refl
@@ -165,10 +179,17 @@ replay-run {V} m (turn ∷ turns) (l ∷ labels) w z run =
     replay-append m (asked_at m w p l) (asked m turns labels (next m w p l)) w.held.service run.0.held.service z.held.service first (subst (λ (x : World V). IsReplay m run.0.held.service (asked m turns labels x) z.held.service) is rest)
 
 -- The headline: in every run from a fresh world the service was asked in the order of the Serve steps, and each queue's
--- entries were taken once and in order, numbered from its base, and used each with its reply, but for at most one.
+-- entries were taken once and in order, numbered from its base, and used each with its reply, but for at most one in flight
+-- or held.
 pub headline : {V : Type 0} (m : Meaning V) (turns : List ℕ) (labels : List Label) (w z : World V) → IsFresh w → IsRun m turns labels w z → IsServed m turns labels w z
-headline m turns labels w z fresh run = record {
-  replies = replay-run m turns labels w z run;
-  in_order = λ q. flow-once z.wiring q (ring_at z.held q).flight (phase_at z.phases) (takes_of q z.takes) (asked_of q (asked m turns labels w)) (uses_of q z.uses) (flow-run m turns labels w z [] (fresh-flow w fresh) (fresh-owned w fresh) run q);
-  numbered = number-run m turns labels w z (fresh-numbered w fresh) run;
-}
+headline m turns labels w z fresh run =
+    let calls = asked m turns labels w in
+    let flow = flow-run m turns labels w z [] (fresh-flow w fresh) (fresh-owned w fresh) run in
+    let owned = own-run m turns labels w z (fresh-owned w fresh) run in
+    let goes : (q : ℕ) → Goes z q (takes_of q z.takes) (asked_of q calls) (uses_of q z.uses) = λ q. flow-goes z owned q (takes_of q z.takes) (asked_of q calls) (uses_of q z.uses) (ring_at z.held q).flight refl (flow q) in
+    record {
+      replies = replay-run m turns labels w z run;
+      in_order = λ q. (goes q).0;
+      out = λ q. (goes q).1;
+      numbered = number-run m turns labels w z (fresh-numbered w fresh) run;
+    }

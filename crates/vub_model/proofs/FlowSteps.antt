@@ -20,11 +20,11 @@ use Rattle.vub_model.specs.declared.ring_op.RingOp.TheVariants as op
 use Rattle.vub_model.specs.RingRecord.{Vring, closed_ring, is_on, is_in_flight, changed, ring_after}
 use Rattle.vub_model.specs.Held.{Held, ring_at, with_ring}
 use Rattle.vub_model.specs.Service.{Meaning}
-use Rattle.vub_model.specs.Wiring.{Wiring}
+use Rattle.vub_model.specs.Wiring.{Wiring, HasWorker}
 use Rattle.vub_model.specs.Work.{Local, after_event, after_take, after_took, after_serve, after_put, after_said, called, used, entry_of, is_live, looked, put_said, serving, stopped, why_of}
 use Rattle.vub_model.specs.World.{World, phase_at, take_of, used_of, takes_by, if_used}
 use Rattle.vub_model.specs.Running.{HasStopped}
-use Rattle.vub_model.specs.Headline.{Asked, takes_of, uses_of, asked_of, asked_in, HasWorker}
+use Rattle.vub_model.specs.Headline.{Asked, takes_of, uses_of, asked_of, asked_in}
 use Rattle.vub_model.proofs.Cases.{event-held, event-phase, take-leaf, none-leaf}
 use Rattle.vub_model.proofs.Live.{looked-live, live-parts, live-taken, serving-takes}
 use Rattle.vub_model.proofs.Owners.{OwnPhase, one-worker}

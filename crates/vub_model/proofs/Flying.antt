@@ -14,10 +14,10 @@ use Rattle.vub_model.specs.declared.cause.StopCause.TheVariants.{Exit}
 use Rattle.vub_model.specs.declared.ring_op.RingOp.TheVariants as op
 use Rattle.vub_model.specs.RingRecord.{Vring, closed_ring, is_on, has_addresses, changed}
 use Rattle.vub_model.specs.Held.{Held, ring_at, with_ring, counter_read, pending_at, swept}
-use Rattle.vub_model.specs.Wiring.{Wiring, opened_at, queues_of}
+use Rattle.vub_model.specs.Wiring.{Wiring, opened_at, queues_of, HasWorker}
 use Rattle.vub_model.specs.Service.{Meaning}
 use Rattle.vub_model.specs.Work.{Local, MayWork, after_work, serving, stopped, why_of, queues_numbered, is_live, after_none, used, called}
-use Rattle.vub_model.specs.Schedule.{HasWorker, PhaseFits, HasInHand, IsFlying}
+use Rattle.vub_model.specs.Schedule.{PhaseFits, HasInHand, IsFlying}
 use Rattle.vub_model.proofs.Counting.{ring-own, ring-other}
 use Rattle.vub_model.proofs.WorkSteps.{Live, work-cases, event-leaf, take-leaf, put-leaf, taken-ring}
 
@@ -42,14 +42,14 @@ module _ {V : Type 0} (m : Meaning V) (g : Wiring) (worker : ℕ) (h : Held V) w
   abbrev pub Flies : Phase → Local V → Type 0
   Flies phase z =
       (q : ℕ) → (ring_at z.held q).flight ≡ flight.InFlight →
-      (((ring_at h q).flight ≡ flight.InFlight) × (HasInHand phase q → HasInHand z.phase q)) ⊎ (HasWorker g worker q × HasInHand z.phase q)
+      (((ring_at h q).flight ≡ flight.InFlight) × (HasInHand phase q → HasInHand z.phase q)) ⊎ (HasWorker g q worker × HasInHand z.phase q)
 
   take-flies : (queues : List ℕ) → PhaseFits g worker (Serving queues) → Flies (Serving queues) (after_work m g worker h (Serving queues) label.Take)
   take-flies [] fits = λ q is. inl (is, λ no. absurd no)
   take-flies (p ∷ queues) fits =
       take-leaf g worker h (Flies (Serving (p ∷ queues))) p queues
       (λ c live q is. elim (flight-set h p (taken-ring (ring_at h p)) q is) [
-        | inl here ↦ inr ((let P : ℕ → Type 0 = λ q. HasWorker g worker q in subst P (sym here.0) fits.0), sym here.0)
+        | inl here ↦ inr ((let P : ℕ → Type 0 = λ q. HasWorker g q worker in subst P (sym here.0) fits.0), sym here.0)
         | inr there ↦ inl (there.1, λ no. absurd no)
       ])
       (λ empty. none (is_live (ring_at h p)))
@@ -69,7 +69,7 @@ module _ {V : Type 0} (m : Meaning V) (g : Wiring) (worker : ℕ) (h : Held V) w
       (λ wanted q is. written (changed (ring_at h e.queue) op.Put) (λ no. absurd cc) q (serving queues) (called-flight (used h e reply) (ring_at h e.queue).call wanted q is))
       (λ fault q is. written (changed (ring_at h e.queue) op.Hold) (λ no. absurd cc) q (stopped (why_of fault)) is) where
         written : (r : Vring) → (r.flight ≡ flight.InFlight → ⊥) → (q : ℕ) (phase : Phase) → (ring_at (with_ring h e.queue r) q).flight ≡ flight.InFlight
-            → (((ring_at h q).flight ≡ flight.InFlight) × (e.queue ≡ q → HasInHand phase q)) ⊎ (HasWorker g worker q × HasInHand phase q)
+            → (((ring_at h q).flight ≡ flight.InFlight) × (e.queue ≡ q → HasInHand phase q)) ⊎ (HasWorker g q worker × HasInHand phase q)
         written r down q phase is =
             elim (flight-set h e.queue r q is) [ inl here ↦ absurd (down here.1) | inr there ↦ inl (there.1, λ hand. absurd (there.0 (sym hand))) ]
 
@@ -85,9 +85,9 @@ module _ {V : Type 0} (m : Meaning V) (g : Wiring) (worker : ℕ) (h : Held V) w
       (λ e reply queues fits. put-flies e reply queues)
 
 -- An entry that a worker has in hand after its step is in flight
-module _ {V : Type 0} (m : Meaning V) (g : Wiring) (worker : ℕ) (h : Held V) (within : (p : ℕ) → HasWorker g worker p → p < length h.rings) where
+module _ {V : Type 0} (m : Meaning V) (g : Wiring) (worker : ℕ) (h : Held V) (within : (p : ℕ) → HasWorker g p worker → p < length h.rings) where
   abbrev pub Hand : Held V → Phase → Type 0
-  Hand z phase = (q : ℕ) → HasInHand phase q → HasWorker g worker q × IsFlying z q
+  Hand z phase = (q : ℕ) → HasInHand phase q → HasWorker g q worker × IsFlying z q
 
   no-hand-serving : (z : Held V) (queues : List ℕ) → Hand z (serving queues)
   no-hand-serving z [] q hand = absurd hand
@@ -105,7 +105,7 @@ module _ {V : Type 0} (m : Meaning V) (g : Wiring) (worker : ℕ) (h : Held V) (
   take-hand [] fits = λ q hand. absurd hand
   take-hand (p ∷ queues) fits =
       take-leaf g worker h (λ z. Hand z.held z.phase) p queues
-      (λ c live q hand. let P : ℕ → Type 0 = λ q. HasWorker g worker q × IsFlying (with_ring h p (taken-ring (ring_at h p))) q in subst P hand (fits.0, flying live))
+      (λ c live q hand. let P : ℕ → Type 0 = λ q. HasWorker g q worker × IsFlying (with_ring h p (taken-ring (ring_at h p))) q in subst P hand (fits.0, flying live))
       (λ empty. no-hand-serving (after_none h p) queues)
       (λ d q hand. absurd hand) where
         flying : Live (ring_at h p) → IsFlying (with_ring h p (taken-ring (ring_at h p))) p

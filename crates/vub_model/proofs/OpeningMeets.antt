@@ -27,11 +27,12 @@ use Rattle.vub_model.specs.declared.wiring.Place.{Place}
 use Rattle.vub_model.specs.RingRecord.{Vring, closed_ring, is_on}
 use Rattle.vub_model.specs.Frame.{Frame, claim_of, frame_of}
 use Rattle.vub_model.specs.Held.{Held, ring_at, count_at, pending_at, has_number, inserted, raised}
-use Rattle.vub_model.specs.Wiring.{Wiring, opened_at, no_worker, place_of}
+use Rattle.vub_model.specs.Wiring.{Wiring, opened_at, no_worker, place_of, IsPlaced}
 use Rattle.vub_model.specs.World.{phase_at}
-use Rattle.vub_model.specs.ValidSetup.{or_else, is_event, is_event_or_none, is_number, is_free, is_free_or_none, is_first_of_queue, is_aligned, ring_is_sound, ring_fault, device_fault, region_fault, given_table_fault, guest_fault, fault_of, IsValid}
+use Rattle.vub_model.specs.Work.{is_object}
+use Rattle.vub_model.specs.ValidSetup.{or_else, is_event, is_event_or_none, is_free, is_free_or_none, is_first_of_queue, is_aligned, ring_is_sound, ring_fault, device_fault, region_fault, given_table_fault, guest_fault, fault_of, IsValid}
 use Rattle.vub_model.specs.Opening.{flags_of, opening_events, opened_worker, wiring_of, listed, exit_member, opening_members, given_vring, ring_from, opening_rings, claimed, joined, placed, registered_kick, registered, opening_table, before_rings, opening, is_registered}
-use Rattle.vub_model.specs.Schedule.{IsPlaced, IsKick, IsBellOrExit, IsOwn, known_at, claim_at, is_member, Linked, Settled, PhaseFits, HasInHand, ringing, waiting, Invariant}
+use Rattle.vub_model.specs.Schedule.{IsKick, IsBellOrExit, IsOwn, known_at, claim_at, is_member, Linked, Settled, PhaseFits, HasInHand, ringing, waiting, Invariant}
 use Rattle.vub_model.proofs.Places.{place-is}
 use Rattle.vub_model.proofs.SchedWork.{known-ring, kick-ring, claim-event}
 use Rattle.vub_model.proofs.Waking.{has-none}
@@ -93,12 +94,12 @@ fault-parts constants objects earlier r rings is =
     let parts = cond-none (ring_is_sound constants objects earlier r) (ring_fault constants objects (earlier ++ r ∷ []) rings) (setup_fault.Ring (length earlier)) is in
     (sound-parts constants objects earlier r parts.0, parts.1)
 
-among-left : {X : Type 0} (xs : List X) (y x : X) → Among xs x → Among (xs ++ y ∷ []) x
+pub among-left : {X : Type 0} (xs : List X) (y x : X) → Among xs x → Among (xs ++ y ∷ []) x
 among-left [] y x among = absurd among
 among-left (z ∷ xs) y x (inl same) = inl same
 among-left (z ∷ xs) y x (inr more) = inr (among-left xs y x more)
 
-among-new : {X : Type 0} (xs : List X) (y : X) → Among (xs ++ y ∷ []) y
+pub among-new : {X : Type 0} (xs : List X) (y : X) → Among (xs ++ y ∷ []) y
 among-new [] y = inl refl
 among-new (z ∷ xs) y = inr (among-new xs y)
 
@@ -112,7 +113,7 @@ all-at p [] i d x all low is = absurd (omega arith)
 all-at p (y ∷ ys) zero d x all low is = ap p (sym is) ∙ (and_parts (p y) (list_all p ys) all).0
 all-at p (y ∷ ys) (suc i) d x all low is = all-at p ys i d x (and_parts (p y) (list_all p ys) all).1 (omega arith) is
 
-not-number : (number : Option ℕ) (o x : ℕ) → not (is_number number o) ≡ true → number ≡ Some x → o ≡ x → ⊥
+not-number : (number : Option ℕ) (o x : ℕ) → not (is_object number o) ≡ true → number ≡ Some x → o ≡ x → ⊥
 not-number None o x h is same = absurd cc
 not-number (Some y) o x h is same =
     let e : y ≡ o = (let f : y ≡ x = cc in f ∙ sym same) in
@@ -121,20 +122,20 @@ not-number (Some y) o x h is same =
     absurd cc
 
 -- a kick is no exit object and no earlier kick
-free-parts : (constants : Constants) (earlier : List GivenRing) (o : ℕ) → is_free constants earlier o ≡ true
+pub free-parts : (constants : Constants) (earlier : List GivenRing) (o : ℕ) → is_free constants earlier o ≡ true
     → ((k x : ℕ) → slice_index_or constants.exits k None ≡ Some x → o ≡ x → ⊥) × ((t : GivenRing) → Among earlier t → (x : ℕ) → t.kick ≡ Some x → o ≡ x → ⊥)
 unfolding is_free
 free-parts constants earlier o is =
-    let kicks : Bool = list_all (λ (ring : GivenRing). not (is_number ring.kick o)) earlier in
-    let parts = and_parts kicks (list_all (λ exit. not (is_number exit o)) constants.exits) is in (
+    let kicks : Bool = list_all (λ (ring : GivenRing). not (is_object ring.kick o)) earlier in
+    let parts = and_parts kicks (list_all (λ exit. not (is_object exit o)) constants.exits) is in (
       (λ k x at same. elim (cases_lt k (length constants.exits)) [
-        | inl low ↦ not-number (Some x) o x (all-at (λ exit. not (is_number exit o)) constants.exits k None (Some x) parts.1 low at) refl same
+        | inl low ↦ not-number (Some x) o x (all-at (λ exit. not (is_object exit o)) constants.exits k None (Some x) parts.1 low at) refl same
         | inr past ↦ absurd (let none = get_or_past constants.exits k None past in cc)
       ]),
-      (λ t among x at same. not-number t.kick o x (all-among (λ (ring : GivenRing). not (is_number ring.kick o)) earlier t parts.0 among) at same),
+      (λ t among x at same. not-number t.kick o x (all-among (λ (ring : GivenRing). not (is_object ring.kick o)) earlier t parts.0 among) at same),
     )
 
-object-below : (objects : List Object) (o : ℕ) → is_event objects o ≡ true → o < length objects
+pub object-below : (objects : List Object) (o : ℕ) → is_event objects o ≡ true → o < length objects
 unfolding is_event
 object-below [] o is = absurd cc
 object-below (x ∷ objects) zero is = omega arith
@@ -176,7 +177,7 @@ found-in q (x ∷ rings) r is = by (eqb x.queue q) refl (found-in q rings r) is 
 
 -- Before the registration
 
-events-at : (objects : List Object) (masks : List ℕ) (P : Option Event → Type 0) → ((flags : ℕ) → P (Some (new_event flags))) → (o : ℕ) (d : Option Event) → o < length objects + length masks → P (get_or (opening_events objects masks) o d)
+pub events-at : (objects : List Object) (masks : List ℕ) (P : Option Event → Type 0) → ((flags : ℕ) → P (Some (new_event flags))) → (o : ℕ) (d : Option Event) → o < length objects + length masks → P (get_or (opening_events objects masks) o d)
 events-at [] [] P each o d low = absurd (omega arith)
 events-at [] (mask ∷ masks) P each zero d low = each 0
 events-at [] (mask ∷ masks) P each (suc o) d low = events-at [] masks P each o d (omega arith)

@@ -13,10 +13,10 @@ use Rattle.vub_model.specs.declared.phase.Phase.TheVariants.{Serving, Served}
 use Rattle.vub_model.specs.declared.ring_op.RingOp.TheVariants as op
 use Rattle.vub_model.specs.RingRecord.{Vring, closed_ring, changed}
 use Rattle.vub_model.specs.Held.{Held, ring_at, with_ring, pending_at}
-use Rattle.vub_model.specs.Wiring.{Wiring}
+use Rattle.vub_model.specs.Wiring.{Wiring, HasWorker}
 use Rattle.vub_model.specs.Service.{Meaning}
 use Rattle.vub_model.specs.Work.{Local, MayWork, after_work, serving, is_live, used}
-use Rattle.vub_model.specs.Schedule.{HasWorker, HasInHand, PhaseFits}
+use Rattle.vub_model.specs.Schedule.{HasInHand, PhaseFits}
 use Rattle.vub_model.proofs.Counting.{field-kept, ring-other, ring-own, ring-past}
 use Rattle.vub_model.proofs.Waking.{called-pending, called-ring}
 use Rattle.vub_model.proofs.WorkSteps.{work-cases, event-leaf, take-leaf, put-leaf, taken-ring}
@@ -46,7 +46,7 @@ module _ {V : Type 0} (m : Meaning V) (g : Wiring) (worker : ℕ) (h : Held V) w
         (λ e reply queues fits. put-leaf g worker h Waits e reply queues (λ wanted. called-pending (used h e reply) (ring_at h e.queue).call wanted k) (λ fault. refl))
 
   -- the next number of a queue that has another worker
-  module _ (q : ℕ) (other : HasWorker g worker q → ⊥) where
+  module _ (q : ℕ) (other : HasWorker g q worker → ⊥) where
     abbrev Numbers : Local V → Type 0
     Numbers z = (ring_at z.held q).queue.next_avail ≡ (ring_at h q).queue.next_avail
 
@@ -58,7 +58,7 @@ module _ {V : Type 0} (m : Meaning V) (g : Wiring) (worker : ℕ) (h : Held V) w
     take-numbers [] fits = refl
     take-numbers (p ∷ queues) fits =
         take-leaf g worker h Numbers p queues
-        (λ c live. ap (λ (x : Vring). x.queue.next_avail) (ring-other h p (taken-ring (ring_at h p)) q (λ same. other (let P : ℕ → Type 0 = λ q. HasWorker g worker q in subst P (sym same) fits.0))))
+        (λ c live. ap (λ (x : Vring). x.queue.next_avail) (ring-other h p (taken-ring (ring_at h p)) q (λ same. other (let P : ℕ → Type 0 = λ q. HasWorker g q worker in subst P (sym same) fits.0))))
         (λ empty. none-numbers (is_live (ring_at h p)) (guest_taken h.guest (ring_at h p).queue took.None) (serving queues))
         (λ d. refl)
 
@@ -75,7 +75,7 @@ module _ {V : Type 0} (m : Meaning V) (g : Wiring) (worker : ℕ) (h : Held V) w
         (λ fault. field-kept (λ (x : Vring). x.queue.next_avail) h e.queue (changed (ring_at h e.queue) op.Hold) refl q))
 
   -- the flight of a queue that has another worker
-  module _ (q : ℕ) (other : HasWorker g worker q → ⊥) where
+  module _ (q : ℕ) (other : HasWorker g q worker → ⊥) where
     abbrev Flight : Local V → Type 0
     Flight z = (ring_at z.held q).flight ≡ (ring_at h q).flight
 
@@ -87,21 +87,21 @@ module _ {V : Type 0} (m : Meaning V) (g : Wiring) (worker : ℕ) (h : Held V) w
     take-flight [] fits = refl
     take-flight (p ∷ queues) fits =
         take-leaf g worker h Flight p queues
-        (λ c live. ap (λ (x : Vring). x.flight) (ring-other h p (taken-ring (ring_at h p)) q (λ same. other (let P : ℕ → Type 0 = λ q. HasWorker g worker q in subst P (sym same) fits.0))))
+        (λ c live. ap (λ (x : Vring). x.flight) (ring-other h p (taken-ring (ring_at h p)) q (λ same. other (let P : ℕ → Type 0 = λ q. HasWorker g q worker in subst P (sym same) fits.0))))
         (λ empty. none-flight (is_live (ring_at h p)) (guest_taken h.guest (ring_at h p).queue took.None) (serving queues))
         (λ d. refl)
 
-    put-flight : (e : Entry) (reply queues : List ℕ) → HasWorker g worker e.queue → Flight (after_work m g worker h (Served e reply queues) label.Put)
+    put-flight : (e : Entry) (reply queues : List ℕ) → HasWorker g e.queue worker → Flight (after_work m g worker h (Served e reply queues) label.Put)
     put-flight e reply queues its =
         put-leaf g worker h Flight e reply queues
         (λ wanted. ap (λ (x : Vring). x.flight) (called-ring (used h e reply) (ring_at h e.queue).call wanted q ∙ ring-other h e.queue (changed (ring_at h e.queue) op.Put) q away))
         (λ fault. ap (λ (x : Vring). x.flight) (ring-other h e.queue (changed (ring_at h e.queue) op.Hold) q away)) where
           away : q ≡ e.queue → ⊥
-          away same = other (let P : ℕ → Type 0 = λ q. HasWorker g worker q in subst P (sym same) its)
+          away same = other (let P : ℕ → Type 0 = λ q. HasWorker g q worker in subst P (sym same) its)
 
-    pub same-flight : (phase : Phase) (l : Label) → MayWork g worker h phase l → PhaseFits g worker phase → ((p : ℕ) → HasInHand phase p → HasWorker g worker p) → Flight (after_work m g worker h phase l)
+    pub same-flight : (phase : Phase) (l : Label) → MayWork g worker h phase l → PhaseFits g worker phase → ((p : ℕ) → HasInHand phase p → HasWorker g p worker) → Flight (after_work m g worker h phase l)
     same-flight =
-        work-cases g worker h (λ phase l. PhaseFits g worker phase → ((p : ℕ) → HasInHand phase p → HasWorker g worker p) → Flight (after_work m g worker h phase l))
+        work-cases g worker h (λ phase l. PhaseFits g worker phase → ((p : ℕ) → HasInHand phase p → HasWorker g p worker) → Flight (after_work m g worker h phase l))
         (λ object may fits hand. refl)
         (λ object token fits hand. event-leaf g worker h Flight object token fits (λ queue at is. refl) refl refl (λ none. refl))
         (λ fits hand. refl)

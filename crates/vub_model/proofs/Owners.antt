@@ -1,5 +1,5 @@
 -- Each queue is served by the one worker that has it: of what a worker polls, sweeps and serves, each queue is its own.
-use Rattle.std.proofs.Common.{◌≡◌, ℕ, ◌<◌, Bool, true, false, cond, ◌==◌, ◌||◌, inl, inr, List, [], ◌∷◌, length, map, filter, slice_index, slice_index_or, slice_set, Option, Some, None, Ok, Err, nat_lt, refl, sym, ◌∙◌, subst, find, get_or-set_same, get_or-set_other}
+use Rattle.std.proofs.Common.{◌≡◌, ℕ, ◌<◌, Bool, true, false, cond, ◌==◌, ◌||◌, inl, inr, List, [], ◌∷◌, length, map, filter, slice_index, slice_index_or, slice_set, Option, Some, None, Ok, Err, nat_lt, refl, sym, ap, ◌∙◌, subst, find, get_or-set_same, get_or-set_other}
 use Rattle.std.specs.List.{AllByRecursion, list_any, cons_option}
 use Rattle.std.proofs.lemmas.Bool.{cond_both, cases_eq, cases_lt, ltb-true, false≢true}
 use Rattle.std.proofs.lemmas.List.{get_or_past, set_past, length-set}
@@ -22,21 +22,20 @@ use Rattle.vub_model.specs.declared.setup.Guest.TheVariants.{Store, Signal}
 use Rattle.vub_model.specs.declared.wiring.Place.{Place}
 use Rattle.vub_model.specs.Held.{Held, ring_at, pending_at, swept, is_ready, token_of, token_in}
 use Rattle.vub_model.specs.Service.{Meaning}
-use Rattle.vub_model.specs.Wiring.{Wiring, opened_at, place_of, queues_of}
+use Rattle.vub_model.specs.Wiring.{Wiring, opened_at, place_of, queues_of, HasWorker}
 use Rattle.vub_model.specs.Work.{Local, MayWork, after_work, after_event, after_sweep, after_take, after_took, after_put, after_said, called, used, queues_numbered, put_said, serving}
 use Rattle.vub_model.specs.World.{World, May, after, after_guest, after_local, phase_at}
-use Rattle.vub_model.specs.RunOf.{Turn}
-use Rattle.vub_model.specs.Headline.{IsAt, HasWorker, IsOwnNumber, IsWaiting, IsFresh}
+use Rattle.vub_model.specs.RunOf.{Turn, IsRun, party_of}
+use Rattle.vub_model.specs.Headline.{IsOwnNumber, IsWaiting, IsFresh}
 use Rattle.vub_model.proofs.Cases.{work-cases, event-held, event-phase, take-leaf, none-leaf, said-cases}
 use Rattle.vub_model.proofs.Turns.{turn-cases}
 
 -- a queue has one worker at most
-at-one : (place : Option Place) (j k : ℕ) → IsAt place j → IsAt place k → j ≡ k
-at-one None j k one two = absurd one
-at-one (Some place) j k one two = sym one ∙ two
-
 pub one-worker : (g : Wiring) (q j k : ℕ) → HasWorker g q j → HasWorker g q k → j ≡ k
-one-worker g q = at-one (place_of g q)
+one-worker g q j k one two =
+    let places : Some (record { worker = j; number = one.0 }) ≡ Some (record { worker = k; number = two.0 }) = sym one.1.place ∙ two.1.place in
+    let same : record { worker = j; number = one.0 } ≡ record { worker = k; number = two.0 } = cc in
+    ap (λ (p : Place). p.worker) same
 
 -- what a worker in this phase is about are queues which have it
 abbrev pub OwnPhase : Wiring → ℕ → Phase → Type 0
@@ -211,3 +210,9 @@ waiting-own g k phase waits = absurd waits
 
 pub fresh-owned : {V : Type 0} (w : World V) → IsFresh w → Owned w
 fresh-owned w fresh = record { listed = fresh.listed; pending = fresh.pending; phases = λ k. waiting-own w.wiring k (phase_at w.phases k) (fresh.waiting k) }
+
+pub own-run : {V : Type 0} (m : Meaning V) (turns : List ℕ) (labels : List Label) (w z : World V) → Owned w → IsRun m turns labels w z → Owned z
+own-run {V} m [] [] w z owned run = subst (λ (x : World V). Owned x) (sym run) owned
+own-run m [] (l ∷ labels) w z owned run = absurd run
+own-run m (turn ∷ turns) [] w z owned run = absurd run
+own-run m (turn ∷ turns) (l ∷ labels) w z owned run = own-run m turns labels run.0 z (own-turn m w owned (party_of turn) run.0 l run.1) run.2

@@ -20,12 +20,12 @@ use Rattle.vub_model.specs.RingRecord.{Vring, closed_ring}
 use Rattle.vub_model.specs.EntryNumber.{has_left}
 use Rattle.vub_model.specs.Frame.{Frame, frame_of}
 use Rattle.vub_model.specs.Held.{Held, ring_at, count_at, count_of, pending_at, has_number}
-use Rattle.vub_model.specs.Wiring.{Wiring, opened_at}
+use Rattle.vub_model.specs.Wiring.{Wiring, opened_at, IsPlaced}
 use Rattle.vub_model.specs.Work.{MayWork}
 use Rattle.vub_model.specs.World.{World, phase_at}
 use Rattle.vub_model.specs.RunOf.{IsAtRest}
 use Rattle.vub_model.specs.Running.{HasStopped, NoneIsLost}
-use Rattle.vub_model.specs.Schedule.{IsPlaced, list_at, is_member, IsOwn, list_of, PhaseFits, Rung, ringing, sweeping, Woken, signalled, waiting, listed, Invariant}
+use Rattle.vub_model.specs.Schedule.{list_at, is_member, IsOwn, list_of, PhaseFits, Rung, ringing, sweeping, Woken, signalled, waiting, listed, Invariant}
 use Rattle.vub_model.proofs.SchedWork.{kick-ring, known-ring}
 
 -- A member whose counter is above zero is reported

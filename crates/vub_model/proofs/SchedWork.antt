@@ -18,12 +18,12 @@ use Rattle.vub_model.specs.RingRecord.{closed_ring, is_on, has_addresses, is_in_
 use Rattle.vub_model.specs.EntryNumber.{has_left}
 use Rattle.vub_model.specs.Frame.{Frame, frame_of, known_of, claim_of}
 use Rattle.vub_model.specs.Held.{Held, ring_at, count_at, pending_at, has_number}
-use Rattle.vub_model.specs.Wiring.{Wiring, opened_at}
+use Rattle.vub_model.specs.Wiring.{Wiring, opened_at, IsPlaced, HasWorker}
 use Rattle.vub_model.specs.Service.{Meaning}
 use Rattle.vub_model.specs.Work.{Local, MayWork, after_work, is_object, used, called, put_said, after_said}
 use Rattle.vub_model.specs.World.{World, phase_at, after}
 use Rattle.vub_model.specs.Running.{HasStopped, index_word, is_kick, is_told, calls_kick, calm_after}
-use Rattle.vub_model.specs.Schedule.{IsPlaced, HasWorker, known_at, claim_at, list_at, is_member, Linked, Settled, PhaseFits, HasInHand, IsFlying, list_of, Rung, ringing, sweeping, Woken, signalled, Awake, Invariant}
+use Rattle.vub_model.specs.Schedule.{known_at, claim_at, list_at, is_member, Linked, Settled, PhaseFits, HasInHand, IsFlying, list_of, Rung, ringing, sweeping, Woken, signalled, Awake, Invariant}
 use Rattle.vub_model.proofs.Places.{one-place}
 use Rattle.vub_model.proofs.Counting.{left-same, raised-own}
 use Rattle.vub_model.proofs.Shapes.{Shape, shape}
@@ -176,7 +176,7 @@ module _ {V : Type 0} (m : Meaning V) (w : World V) (calm : ℕ → Bool) (few :
         | inr other ↦ (let F : Phase → Type 0 = λ p. HasInHand p q in subst F (sym (at-other k other)) hand)
       ]
 
-  new-flies : (q : ℕ) → (ring_at z.held q).flight ≡ flight.InFlight → (k : ℕ) × HasWorker g k q × HasInHand (phase_at phases k) q
+  new-flies : (q : ℕ) → (ring_at z.held q).flight ≡ flight.InFlight → (k : ℕ) × HasWorker g q k × HasInHand (phase_at phases k) q
   new-flies q is =
       elim (flies-kept m g j h before l may fits q is) [
         | inl was ↦ (let old = i.flies q was.0 in (old.0, old.1, kept-hand q old.0 was.1 old.2))
@@ -185,22 +185,22 @@ module _ {V : Type 0} (m : Meaning V) (w : World V) (calm : ℕ → Bool) (few :
 
   -- Entries in hand
 
-  hand-own : (q : ℕ) → HasInHand (phase_at phases j) q → HasWorker g j q × IsFlying z.held q
+  hand-own : (q : ℕ) → HasInHand (phase_at phases j) q → HasWorker g q j × IsFlying z.held q
   hand-own q hand =
       let F : Phase → Type 0 = λ p. HasInHand p q in
       hand-kept m g j h (λ p its. omega (arith, its.1.there, i.rings_size)) before l may fits (i.hands j) q (subst F at-own hand)
 
-  hand-other : (k q : ℕ) → (k ≡ j → ⊥) → HasInHand (phase_at phases k) q → HasWorker g k q × IsFlying z.held q
+  hand-other : (k q : ℕ) → (k ≡ j → ⊥) → HasInHand (phase_at phases k) q → HasWorker g q k × IsFlying z.held q
   hand-other k q other hand =
       let F : Phase → Type 0 = λ p. HasInHand p q in
       let old = i.hands k q (subst F (at-other k other) hand) in
       let flight = same-flight m g j h q (λ its. other (sym (one-place g q j its.0 k old.0.0 its.1 old.0.1).0)) before l may fits (λ p its. (i.hands j p its).0) in
       (old.0, record { flight = flight ∙ old.1.flight; addresses = ap is_some (shaped.addresses q) ∙ old.1.addresses })
 
-  new-hands : (k q : ℕ) → HasInHand (phase_at phases k) q → HasWorker g k q × IsFlying z.held q
+  new-hands : (k q : ℕ) → HasInHand (phase_at phases k) q → HasWorker g q k × IsFlying z.held q
   new-hands k q =
       elim (cases_eq k j) [
-        | inl same ↦ (let P : ℕ → Type 0 = λ k. HasInHand (phase_at phases k) q → HasWorker g k q × IsFlying z.held q in subst P (sym same) (hand-own q))
+        | inl same ↦ (let P : ℕ → Type 0 = λ k. HasInHand (phase_at phases k) q → HasWorker g q k × IsFlying z.held q in subst P (sym same) (hand-own q))
         | inr other ↦ hand-other k q other
       ]
 

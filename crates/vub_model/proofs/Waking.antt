@@ -15,11 +15,11 @@ use Rattle.vub_model.specs.RingRecord.{Vring, is_on, has_addresses, is_in_flight
 use Rattle.vub_model.specs.EntryNumber.{has_left}
 use Rattle.vub_model.specs.Held.{Held, ring_at, with_ring, count_at, counter_read, read_option, pending_at, has_number, swept}
 use Rattle.vub_event.specs.HostTable.{event_at}
-use Rattle.vub_model.specs.Wiring.{Wiring, opened_at, queues_of}
+use Rattle.vub_model.specs.Wiring.{Wiring, opened_at, queues_of, IsPlaced}
 use Rattle.vub_model.specs.Service.{Meaning}
 use Rattle.vub_model.specs.Work.{Local, MayWork, after_work, serving, is_object, queues_numbered, is_live, used, called}
 use Rattle.vub_model.specs.Running.{HasStopped, index_word}
-use Rattle.vub_model.specs.Schedule.{IsPlaced, list_of, PhaseFits, Woken, signalled, waiting, listed}
+use Rattle.vub_model.specs.Schedule.{list_of, PhaseFits, Woken, signalled, waiting, listed}
 use Rattle.vub_model.proofs.Places.{slot}
 use Rattle.vub_model.proofs.Counting.{count-other, raised-keeps, field-kept, ring-other, left-same}
 use Rattle.vub_model.proofs.Shapes.{Shape}

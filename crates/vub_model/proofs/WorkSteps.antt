@@ -19,9 +19,9 @@ use Rattle.vub_model.specs.declared.phase.Phase.TheVariants.{Idle, Polled, Sweep
 use Rattle.vub_model.specs.declared.ring_op.RingOp.TheVariants as op
 use Rattle.vub_model.specs.RingRecord.{Vring, is_on, has_addresses, is_in_flight, limit, changed}
 use Rattle.vub_model.specs.Held.{Held, ring_at, with_ring, count_at, counter_read}
-use Rattle.vub_model.specs.Wiring.{Wiring, opened_at, queues_of}
+use Rattle.vub_model.specs.Wiring.{Wiring, opened_at, queues_of, IsPlaced}
 use Rattle.vub_model.specs.Work.{Local, MayWork, serving, stopped, is_object, after_kick, after_bell, after_event, is_live, looked, entry_of, after_none, after_took, after_take, put_said, why_of, used, called, after_put, after_said}
-use Rattle.vub_model.specs.Schedule.{IsPlaced, PhaseFits}
+use Rattle.vub_model.specs.Schedule.{PhaseFits}
 use Rattle.vub_model.proofs.Places.{slot, few-queues}
 
 -- a worker's step is one of six

@@ -1,6 +1,6 @@
 -- What holds of every run: each queue took its entries once and in order, numbered from its base, and used each with the
--- service's reply to the bytes read at taking, but for at most one entry.
-use Rattle.std.specs.Prelude.{◌≡◌, ℕ, zero, suc, true, ◌+◌, ◌<◌, ◌≤◌, ◌==◌, ◌⊎◌, List, [], ◌∷◌, ◌++◌, length, map, filter, slice_index, Option, Some, None}
+-- service's reply to the bytes read at taking, but for at most one in flight or held.
+use Rattle.std.specs.Prelude.{◌≡◌, ℕ, zero, suc, true, ◌+◌, ◌<◌, ◌≤◌, ◌==◌, ◌⊎◌, List, [], ◌∷◌, ◌++◌, length, map, filter, slice_index}
 use Rattle.std.specs.List.{AllByRecursion}
 use Rattle.vub_mem.specs.Laws.{byte_of}
 use Rattle.vub_mem.specs.Memory.{Guest}
@@ -15,14 +15,14 @@ use Rattle.vub_model.specs.declared.party.Party.TheVariants as party
 use Rattle.vub_model.specs.declared.phase.Phase.{Phase}
 use Rattle.vub_model.specs.declared.phase.Phase.TheVariants.{Idle, Taken, Stopped}
 use Rattle.vub_model.specs.declared.records.Take.{Take}
-use Rattle.vub_model.specs.declared.wiring.Place.{Place}
 use Rattle.vub_model.specs.RingRecord.{Vring, is_on, has_addresses}
 use Rattle.vub_model.specs.Held.{ring_at, pending_at}
 use Rattle.vub_model.specs.Service.{Meaning}
-use Rattle.vub_model.specs.Wiring.{Wiring, opened_at, place_of, queues_of}
+use Rattle.vub_model.specs.Wiring.{Wiring, opened_at, queues_of, HasWorker}
 use Rattle.vub_model.specs.World.{World, phase_at, written_by}
 use Rattle.vub_model.specs.Written.{Spot}
 use Rattle.vub_model.specs.RunOf.{party_of, next}
+use Rattle.vub_model.specs.Running.{InFlightOrHeld}
 
 -- one call of the service: for this entry it gave this reply
 pub record Asked : Type 0 where
@@ -102,22 +102,14 @@ abbrev pub Numbered : {V : Type 0} → World V → Type 0
 Numbered w = (queue : ℕ) → RingNumbered (ring_at w.held queue) (takes_of queue w.takes)
 
 -- What the labels came to: the service was asked in the order of the Serve steps, and each queue's entries were taken
--- once and in order and used with its replies.
+-- once and in order and used with its replies, but for at most one in flight or held.
 pub record IsServed {V : Type 0} (m : Meaning V) (schedule : List ℕ) (labels : List Label) (opening closing : World V) : Type 0 where
   pub replies : IsReplay m opening.held.service (asked m schedule labels opening) closing.held.service
   pub in_order : (queue : ℕ) → OnceInOrder (takes_of queue closing.takes) (asked_of queue (asked m schedule labels opening)) (uses_of queue closing.uses)
+  pub out : (queue : ℕ) → InFlightOrHeld closing queue (in_order queue).unasked (in_order queue).unused
   pub numbered : Numbered closing
 
 -- Where a run begins.
-
--- the place is at this worker
-abbrev pub IsAt : Option Place → ℕ → Type 0
-IsAt None worker = ⊥
-IsAt (Some place) worker = place.worker ≡ worker
-
--- the queue has this worker
-abbrev pub HasWorker : Wiring → ℕ → ℕ → Type 0
-HasWorker g queue worker = IsAt (place_of g queue) worker
 
 -- if the number is an event number of this worker, then that of a queue which has this worker
 abbrev pub IsOwnNumber : Wiring → ℕ → ℕ → Type 0

@@ -1,10 +1,10 @@
 -- Entries in a worker's hand, queues that run, and queues that are calm.
-use Rattle.std.specs.Prelude.{◌≡◌, ℕ, Bool, true, false, ◌&&◌, ◌==◌, if◌then◌else◌, List, [], ◌∷◌, Option, Some, None, Result, Ok, Err}
+use Rattle.std.specs.Prelude.{◌≡◌, ℕ, Bool, true, false, ◌&&◌, ◌==◌, ◌⊎◌, if◌then◌else◌, List, [], ◌∷◌, Option, Some, None, Result, Ok, Err}
 use Rattle.std.specs.Int.{w16}
 use Rattle.vub_mem.specs.Place.{number_at}
 use Rattle.vub_queue.specs.Layout.{avail_index_at}
 use Rattle.vub_queue.specs.declared.putting.PutFault.{PutFault}
-use Rattle.vub_model.specs.declared.entry.Entry.{Entry}
+use Rattle.vub_proto.specs.declared.used.Used.{Used}
 use Rattle.vub_model.specs.declared.flight.Flight.TheVariants as flight
 use Rattle.vub_model.specs.declared.label.Label.{Label}
 use Rattle.vub_model.specs.declared.label.Label.TheVariants as label
@@ -12,15 +12,16 @@ use Rattle.vub_model.specs.declared.party.Party.{Party}
 use Rattle.vub_model.specs.declared.party.Party.TheVariants as party
 use Rattle.vub_model.specs.declared.phase.Phase.{Phase}
 use Rattle.vub_model.specs.declared.phase.Phase.TheVariants.{Taken, Served, Stopped}
+use Rattle.vub_model.specs.declared.records.Take.{Take}
 use Rattle.vub_model.specs.declared.setup.Guest.{Guest}
 use Rattle.vub_model.specs.declared.setup.Guest.TheVariants.{Store, Signal}
 use Rattle.vub_model.specs.declared.wiring.Place.{Place}
 use Rattle.vub_model.specs.RingRecord.{is_on, has_addresses}
 use Rattle.vub_model.specs.EntryNumber.{has_left}
 use Rattle.vub_model.specs.Held.{Held, ring_at}
-use Rattle.vub_model.specs.Wiring.{place_of}
+use Rattle.vub_model.specs.Wiring.{place_of, HasWorker}
 use Rattle.vub_model.specs.Work.{is_object, put_said}
-use Rattle.vub_model.specs.World.{World, phase_at}
+use Rattle.vub_model.specs.World.{World, phase_at, take_of, used_of}
 use Rattle.vub_model.specs.RunOf.{party_of, next}
 use Rattle.vub_model.specs.Service.{Meaning}
 
@@ -29,19 +30,28 @@ abbrev pub HasStopped : Phase → Type 0
 HasStopped (Stopped cause) = Unit {0}
 HasStopped phase = ⊥
 
--- the entry is in the hand of a worker in this phase
-abbrev pub InHand : Phase → Entry → Type 0
-InHand (Taken e queues) entry = e ≡ entry
-InHand (Served e reply queues) entry = e ≡ entry
-InHand phase entry = ⊥
+-- a worker in this phase has in hand the one entry that was taken and not served, or the one that was served and not used
+abbrev pub InHand : Phase → List Take → List Used → Type 0
+InHand (Taken e queues) (t ∷ []) [] = take_of e ≡ t
+InHand (Served e reply queues) [] (u ∷ []) = used_of e reply ≡ u
+InHand phase unasked unused = ⊥
 
--- the entry was taken and not used, and its worker has not stopped
-abbrev pub IsInFlight : {V : Type 0} → World V → Entry → Type 0
-IsInFlight w entry = (worker : ℕ) × InHand (phase_at w.phases worker) entry
+-- these, taken and not used, are one entry, and the queue's worker, which has not stopped, has it in hand
+abbrev pub IsInFlight : {V : Type 0} → World V → ℕ → List Take → List Used → Type 0
+IsInFlight w queue unasked unused = (worker : ℕ) × HasWorker w.wiring queue worker × InHand (phase_at w.phases worker) unasked unused
 
--- the queue's last entry was taken and not used, and its worker has stopped
-abbrev pub HoldsEntry : {V : Type 0} → World V → ℕ → Type 0
-HoldsEntry w queue = (ring_at w.held queue).flight ≡ flight.Held
+-- the queue's last entry was taken, served and not used, and the queue's worker has stopped
+pub record HoldsEntry {V : Type 0} (w : World V) (queue : ℕ) : Type 0 where
+  pub flight : (ring_at w.held queue).flight ≡ flight.Held
+  pub worker : ℕ
+  pub has : HasWorker w.wiring queue worker
+  pub stopped : HasStopped (phase_at w.phases worker)
+
+-- what a queue has taken and not used: nothing, or an entry in flight or held
+abbrev pub InFlightOrHeld : {V : Type 0} → World V → ℕ → List Take → List Used → Type 0
+InFlightOrHeld w queue [] [] = Unit {0}
+InFlightOrHeld w queue [] unused = IsInFlight w queue [] unused ⊎ HoldsEntry w queue
+InFlightOrHeld w queue unasked unused = IsInFlight w queue unasked unused
 
 -- The queue runs: it is ready and enabled, and has a kick, addresses and a worker that has not stopped.
 pub record IsRunning {V : Type 0} (w : World V) (queue : ℕ) : Type 0 where

@@ -15,24 +15,15 @@ use Rattle.vub_model.specs.RingRecord.{closed_ring, is_on, has_addresses}
 use Rattle.vub_model.specs.EntryNumber.{has_left}
 use Rattle.vub_model.specs.Frame.{Frame, frame_of, known_of}
 use Rattle.vub_model.specs.Held.{Held, ring_at, count_at, pending_at, has_number}
-use Rattle.vub_model.specs.Wiring.{Wiring, opened_at, place_of}
+use Rattle.vub_model.specs.Wiring.{Wiring, opened_at, place_of, IsPlaced, HasWorker}
 use Rattle.vub_model.specs.World.{World, phase_at}
 use Rattle.vub_model.specs.Running.{HasStopped}
 
 -- Places
 
--- the queue is served by this worker, under this event number
-pub record IsPlaced (g : Wiring) (queue worker number : ℕ) : Type 0 where
-  pub there : queue < g.queues
-  pub place : place_of g queue ≡ Some (record { worker = worker; number = number })
-
 -- a queue that has this worker has this event number
 abbrev pub IsNumber : Wiring → ℕ → ℕ → Type 0
 IsNumber g worker number = (queue : ℕ) × IsPlaced g queue worker number
-
--- the queue has this worker
-abbrev pub HasWorker : Wiring → ℕ → ℕ → Type 0
-HasWorker g worker queue = (number : ℕ) × IsPlaced g queue worker number
 
 -- The frame: kicks, flags, interest lists and claims
 
@@ -97,7 +88,7 @@ list_of phase = []
 abbrev pub PhaseFits : Wiring → ℕ → Phase → Type 0
 PhaseFits g worker (Polled object token) = (token ≡ g.queues) ⊎ IsNumber g worker token
 PhaseFits g worker (Heard token) = ⊥
-PhaseFits g worker phase = AllByRecursion (HasWorker g worker) (list_of phase)
+PhaseFits g worker phase = AllByRecursion (λ q. HasWorker g q worker) (list_of phase)
 
 -- the worker has an entry of this queue in hand
 abbrev pub HasInHand : Phase → ℕ → Type 0
@@ -151,7 +142,7 @@ pub record Invariant {V : Type 0} (w : World V) (calm : ℕ → Bool) : Type 0 w
   pub numbers : (worker number : ℕ) → has_number number (pending_at w.held worker) ≡ true → IsNumber w.wiring worker number
   pub phases : (worker : ℕ) → PhaseFits w.wiring worker (phase_at w.phases worker)
   -- an entry in flight is in the hand of its queue's worker, and an entry in hand is in flight, of a ring with addresses
-  pub flies : (queue : ℕ) → (ring_at w.held queue).flight ≡ flight.InFlight → (worker : ℕ) × HasWorker w.wiring worker queue × HasInHand (phase_at w.phases worker) queue
-  pub hands : (worker queue : ℕ) → HasInHand (phase_at w.phases worker) queue → HasWorker w.wiring worker queue × IsFlying w.held queue
+  pub flies : (queue : ℕ) → (ring_at w.held queue).flight ≡ flight.InFlight → (worker : ℕ) × HasWorker w.wiring queue worker × HasInHand (phase_at w.phases worker) queue
+  pub hands : (worker queue : ℕ) → HasInHand (phase_at w.phases worker) queue → HasWorker w.wiring queue worker × IsFlying w.held queue
   pub rung : AllRung w
   pub awake : Awake w calm

@@ -17,6 +17,7 @@ use Rattle.vub_model.specs.declared.setup.GivenRing.{GivenRing}
 use Rattle.vub_model.specs.declared.setup.Info.{Info}
 use Rattle.vub_model.specs.declared.setup.Setup.{Setup}
 use Rattle.vub_model.specs.declared.constants.Constants.{Constants}
+use Rattle.vub_model.specs.Work.{is_object}
 
 -- the first fault of the two
 abbrev pub or_else : Option SetupFault → Option SetupFault → Option SetupFault
@@ -93,15 +94,10 @@ abbrev pub is_aligned : Option Info → Bool
 is_aligned None = true
 is_aligned (Some info) = (info.desc % 16 == 0) && (info.avail % 2 == 0) && (info.used % 4 == 0)
 
--- whether this is that number
-abbrev pub is_number : Option ℕ → ℕ → Bool
-is_number None number = false
-is_number (Some other) number = other == number
-
 -- whether the event is no kick of these rings and no exit object
 unfoldable pub is_free : Constants → List GivenRing → ℕ → Bool
 is_free constants earlier number =
-    list_all (λ ring. not (is_number ring.kick number)) earlier && list_all (λ exit. not (is_number exit number)) constants.exits
+    list_all (λ ring. not (is_object ring.kick number)) earlier && list_all (λ exit. not (is_object exit number)) constants.exits
 
 abbrev pub is_free_or_none : Constants → List GivenRing → Option ℕ → Bool
 is_free_or_none constants earlier None = true

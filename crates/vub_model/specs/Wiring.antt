@@ -1,6 +1,6 @@
 -- Which worker serves a queue, and under which event number. A queue belongs to the first worker whose mask has its bit;
 -- its event number is the count of that mask's bits below it.
-use Rattle.std.specs.Prelude.{ℕ, Bool, ◌==◌, List, length, slice_index_or, Option, Some, None, filter, position}
+use Rattle.std.specs.Prelude.{◌≡◌, ◌<◌, ℕ, Bool, ◌==◌, List, length, slice_index_or, Option, Some, None, filter, position}
 use Rattle.std.specs.List.{range_with_len}
 use Rattle.std.specs.Int.{bit_at}
 use Rattle.vub_model.specs.declared.wiring.Opened.{Opened}
@@ -44,3 +44,12 @@ place_with masks queue (Some worker) = Some (record { worker = worker; number = 
 -- the place of a queue, if a worker has it
 unfoldable pub place_of : Wiring → ℕ → Option Place
 place_of g queue = place_with g.masks queue (position (λ mask. has_bit mask queue) g.masks)
+
+-- the queue is served by this worker, under this event number
+pub record IsPlaced (g : Wiring) (queue worker number : ℕ) : Type 0 where
+  pub there : queue < g.queues
+  pub place : place_of g queue ≡ Some (record { worker = worker; number = number })
+
+-- the queue has this worker
+abbrev pub HasWorker : Wiring → ℕ → ℕ → Type 0
+HasWorker g queue worker = (number : ℕ) × IsPlaced g queue worker number

@@ -16,17 +16,13 @@ pub returns-then-schedule-ge-MOST_TURNS-clause-refused : goal.returns-then-sched
 returns-then-schedule-ge-MOST_TURNS-clause-refused g c =
     none-played (meaning g.V.Service.reply_of g.V.Service.after) c.args.constants.now c.args.setup.now c.args.service.now c.args.schedule.now c.args.service.now refl (opening-service c.args.constants.now c.args.setup.now c.args.service.now)
 
-pub returns-in-Err-clause-refused : goal.returns-in-Err-clause-refused
-returns-in-Err-clause-refused g c =
-    none-played (meaning g.V.Service.reply_of g.V.Service.after) c.args.constants.now c.args.setup.now c.args.service.now c.args.schedule.now c.args.service.now refl (opening-service c.args.constants.now c.args.setup.now c.args.service.now)
-
 pub finish-requires-clause-workers : goal.finish-requires-clause-workers
 finish-requires-clause-workers g c =
     let count : length c.play.new.machine.workers.items ≡ length c.args.constants.now.masks = c.play.ensures.count ∙ worker-count c.args.constants.now c.args.setup.now c.args.machine c.requires.opened in
     omega (arith, c.requires.numbers)
 
-pub returns-in-Err-play-clause-refused : goal.returns-in-Err-play-clause-refused
-returns-in-Err-play-clause-refused g c =
+pub returns-in-Err-clause-refused : goal.returns-in-Err-clause-refused
+returns-in-Err-clause-refused g c =
     let k = c.args.constants.now in
     let s = c.args.setup.now in
     let v = c.args.service.now in
@@ -35,9 +31,9 @@ returns-in-Err-play-clause-refused g c =
     let G : List Guest → Type 0 = λ gs. WasCutShort m c.args.schedule.now c.play.new.labels.items (world_of w gs c.args.machine v) c.play.new.service in
     let O : World g.row.V.Denot → Type 0 = λ o. WasCutShort m c.args.schedule.now c.play.new.labels.items o c.play.new.service in
     let guest : c.as_slice-guest.result.now ≡ s.guest = search rules in
-    let cut : G c.as_slice-guest.result.now = c.in-Err-play.ensures.cut w c.requires.workers in
+    let cut : G c.as_slice-guest.result.now = c.in-Err.ensures.cut w c.requires.workers in
     let long : c.len.result ≡ length c.play.new.labels.items = search rules in
-    some-played m k s v c.args.schedule.now c.play.new.labels.items c.play.new.service c.len.result long (subst O (world_for k s v c.args.machine c.requires.opened) (subst G guest cut))
+    some-played m k s v c.args.schedule.now c.play.new.labels.items c.play.new.service c.len.result c.requires.valid long (subst O (world_for k s v c.args.machine c.requires.opened) (subst G guest cut))
 
 pub returns-in-Ok-finish-clause-played : goal.returns-in-Ok-finish-clause-played
 returns-in-Ok-finish-clause-played g c =
@@ -52,7 +48,7 @@ returns-in-Ok-finish-clause-played g c =
     let O : World g.row.V.Denot → Type 0 = λ o. HasPlayed m turns labels o (world_of w s.guest c.play.new.machine c.play.new.service) in
     let guest : c.as_slice-guest.result.now ≡ s.guest = search rules in
     let objects : c.as_slice.result.now ≡ s.objects = search rules in
-    let played : G c.as_slice-guest.result.now = c.in-Ok-play.ensures.played w c.requires.workers in
+    let played : G c.as_slice-guest.result.now = c.in-Ok.ensures.played w c.requires.workers in
     let S : List Object → List Guest → Type 0 = λ os gs. Shows os labels (world_of w gs c.play.new.machine c.play.new.service) c.in-Ok-finish.run' in
     let shows : S c.as_slice.result.now c.as_slice-guest.result.now = c.in-Ok-finish.ensures w (c.play.ensures.workers w c.requires.workers) in
     let short : length turns < 2 ^ 63 = omega (arith, c.if-schedule-ge-MOST_TURNS.false) in
@@ -72,7 +68,7 @@ returns-in-Err-finish-clause-refused g c =
     let G : List Guest → Type 0 = λ gs. HasPlayed m turns labels (world_of w gs c.args.machine v) (world_of w gs c.play.new.machine c.play.new.service) in
     let O : World g.row.V.Denot → Type 0 = λ o. HasPlayed m turns labels o (world_of w s.guest c.play.new.machine c.play.new.service) in
     let guest : c.as_slice-guest.result.now ≡ s.guest = search rules in
-    let played : G c.as_slice-guest.result.now = c.in-Ok-play.ensures.played w c.requires.workers in
+    let played : G c.as_slice-guest.result.now = c.in-Ok.ensures.played w c.requires.workers in
     let long : c.len-done.result ≡ length labels = search rules in
-    end-played m k s v turns labels (world_of w s.guest c.play.new.machine c.play.new.service) c.play.new.service c.len-done.result long
+    end-played m k s v turns labels (world_of w s.guest c.play.new.machine c.play.new.service) c.play.new.service c.len-done.result c.requires.valid long
     (subst O (world_for k s v c.args.machine c.requires.opened) (subst G guest played)) refl

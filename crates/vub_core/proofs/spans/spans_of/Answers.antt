@@ -6,4 +6,4 @@ use Rattle.vub_core.proofs.spans.spans_of.Goals as goal
 
 pub loop-number-preserved : goal.loop-number-preserved
 loop-number-preserved c =
-    next_content c.args.written.now c.args.memory.now.guest c.args.objects.now c.loop-number.number (Event 0) _ _ _ c.loop-number-test.true c.loop-number.invariant (c.in_ok-push_runs.ensures c.args.written.now (sym c.of-flags.ensures) ∙ ap (λ l. c.loop-number.spans.items ++ spans_in c.args.written.now c.loop-number.number 0 l) c.content.ensures)
+    next_content c.args.written.now c.args.memory.now.guest c.args.objects.now c.loop-number.number (Event 0) _ _ _ c.loop-number-test.true c.loop-number.invariant (c.in_ok-push_content.ensures c.args.written.now (sym c.of-flags.ensures))
