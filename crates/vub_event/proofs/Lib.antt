@@ -1,8 +1,10 @@
+pub mod AddLaws
 pub mod CounterLaws
 pub mod Mapping
 pub mod Placing
+pub mod Refusing
 pub mod Reporting
 pub mod Searching
 pub mod Striking
-pub mod TableLaws
 pub mod Telling
+pub mod WriteLaws

@@ -26,7 +26,7 @@ pub enum HostError {
     /// A message has more objects than there is room for.
     #[error("no buffer space available")]
     ENOBUFS,
-    /// The host failed. It comes only where the host's count of faults rose.
+    /// The host failed. It comes only where the host's count of faults rose, or stands at its end.
     #[error("host failed")]
     Failed,
     /// A queue holds the object, or a list has it.

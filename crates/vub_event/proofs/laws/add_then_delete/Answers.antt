@@ -1,5 +1,5 @@
 use Rattle.vub_event.specs.HostCalls.{member_for}
-use Rattle.vub_event.proofs.TableLaws.{told-added-then}
+use Rattle.vub_event.proofs.AddLaws.{told-added-then}
 use Rattle.vub_event.proofs.laws.add_then_delete.Goals as goal
 
 pub returns-clause-table : goal.returns-clause-table

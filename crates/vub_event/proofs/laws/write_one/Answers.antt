@@ -1,4 +1,4 @@
-use Rattle.vub_event.proofs.TableLaws.{told-one-written}
+use Rattle.vub_event.proofs.WriteLaws.{told-one-written}
 use Rattle.vub_event.proofs.laws.write_one.Goals as goal
 
 pub returns-clause-table : goal.returns-clause-table

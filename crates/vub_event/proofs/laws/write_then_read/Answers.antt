@@ -1,5 +1,5 @@
 use Rattle.std.proofs.Common.{rules}
-use Rattle.vub_event.proofs.TableLaws.{told-written-then, told-write-refused}
+use Rattle.vub_event.proofs.WriteLaws.{told-written-then, told-write-refused}
 use Rattle.vub_event.proofs.laws.write_then_read.Goals as goal
 
 pub returns-in_err-signal-clause-table : goal.returns-in_err-signal-clause-table

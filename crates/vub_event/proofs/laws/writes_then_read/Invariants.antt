@@ -1,7 +1,7 @@
 use Rattle.std.proofs.Common.{Ok}
 use Rattle.vub_base.specs.Told.{Told}
 use Rattle.vub_event.specs.Faults.{CountsFaults}
-use Rattle.vub_event.proofs.TableLaws.{WroteFirst}
+use Rattle.vub_event.proofs.WriteLaws.{WroteFirst}
 use Rattle.vub_event.proofs.laws.writes_then_read.Given as goal
 
 abbrev pub invariant-loop-value : goal.invariant-loop-value
