@@ -1,5 +1,5 @@
 -- The plain log: its words of 32 pages, and how often each was harvested.
-use Rattle.std.specs.Prelude.{◌≡◌, ℕ, ◌+◌, ◌*◌, ◌/◌, ◌%◌, ◌^◌, List, replicate, slice_index, slice_set, bit_or}
+use Rattle.std.specs.Prelude.{ℕ, ◌+◌, ◌*◌, ◌/◌, ◌%◌, ◌^◌, List, replicate, slice_index, slice_set, bit_or}
 use Rattle.std.specs.Int.{bit_at}
 
 pub record Plain : Type 0 where

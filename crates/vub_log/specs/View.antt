@@ -1,5 +1,5 @@
 -- What a contract sees of a plain log, and what always holds of it.
-use Rattle.std.specs.Prelude.{◌≡◌, ℕ, ◌^◌, ◌<◌, length}
+use Rattle.std.specs.Prelude.{◌≡◌, ◌^◌, ◌<◌, length}
 use Rattle.vub_log.specs.Plain.{Plain, word_count}
 use Rattle.vub_log.specs.declared.plain.PlainLog.TheInside.{Inside}
 
