@@ -5,25 +5,15 @@ use Rattle.vub_host.specs.declared.epoll.EpollEvent.{EpollEvent}
 use Rattle.vub_host.specs.Calls.{event_of}
 use Rattle.vub_host.specs.Messages.{written_over}
 
--- one more number is written
-pub number-written : (from to : List ℕ) (i d : ℕ) → i < length from → i < length to
-    → set (take i from ++ drop i to) i (get_or from i d) ≡ take (i + 1) from ++ drop (i + 1) to
-number-written [] to i d lt room = absurd (omega arith)
-number-written (x ∷ from) [] i d lt room = absurd (omega arith)
-number-written (x ∷ from) (y ∷ to) zero d lt room = refl
-number-written (x ∷ from) (y ∷ to) (suc i) d lt room =
-    let step : suc i + 1 ≡ suc (i + 1) = omega arith in
-    rw step (ap (λ (l : List ℕ). x ∷ l) (number-written from to i d (omega arith) (omega arith)))
-
 -- all that there is room for is written
-pub numbers-written : (from to : List ℕ) (n : ℕ) → n ≡ min (length from) (length to) → take n from ++ drop n to ≡ written_over from to
-numbers-written [] [] zero is = refl
-numbers-written [] (y ∷ to) zero is = refl
-numbers-written [] to (suc n) is = absurd (omega arith)
-numbers-written (x ∷ from) [] zero is = refl
-numbers-written (x ∷ from) [] (suc n) is = absurd (omega arith)
-numbers-written (x ∷ from) (y ∷ to) zero is = absurd (omega arith)
-numbers-written (x ∷ from) (y ∷ to) (suc n) is = ap (λ (l : List ℕ). x ∷ l) (numbers-written from to n (omega arith))
+pub all-written : {T : Type 0} (from to : List T) (n : ℕ) → n ≡ min (length from) (length to) → take n from ++ drop n to ≡ written_over from to
+all-written [] [] zero is = refl
+all-written [] (y ∷ to) zero is = refl
+all-written [] to (suc n) is = absurd (omega arith)
+all-written (x ∷ from) [] zero is = refl
+all-written (x ∷ from) [] (suc n) is = absurd (omega arith)
+all-written (x ∷ from) (y ∷ to) zero is = absurd (omega arith)
+all-written {T} (x ∷ from) (y ∷ to) (suc n) is = ap (λ (l : List T). x ∷ l) (all-written from to n (omega arith))
 
 -- one more event is written
 pub event-written : (ready : List Ready) (to : List EpollEvent) (i : ℕ) (d : Ready) → i < length ready → i < length to

@@ -15,7 +15,7 @@ closed table [] = table
 closed table (object ∷ objects) = closed (close_after table object) objects
 
 -- `before` with its front written over by `values`, as far as there is room
-abbrev pub written_over : List ℕ → List ℕ → List ℕ
+abbrev pub written_over : {T : Type 0} → List T → List T → List T
 written_over values before = take (length before) values ++ drop (length values) before
 
 -- the bytes of several buffers, one after the other

@@ -1,11 +1,10 @@
-use crate::objects::Objects;
-use vub_base::Bytes;
+use vub_base::{Bytes, Listed};
 
 /// A message: some bytes and the objects that go with them.
 #[derive(Drop)]
 pub struct Message {
     /// The bytes.
     pub bytes: Bytes,
-    /// The objects.
-    pub objects: Objects,
+    /// The numbers of the objects.
+    pub objects: Listed<u32>,
 }

@@ -4,11 +4,10 @@ ghost use Rattle.vub_event.specs.Errors.{RefusesBy};
 ghost use Rattle.vub_host.specs.Messages.{written_over, joined, closed};
 
 use crate::message::Message;
-use crate::objects::Objects;
 use std::alloc::Global;
 use std::collections::VecDeque;
 use std::marker::Model;
-use vub_base::Bytes;
+use vub_base::{Bytes, Listed};
 use vub_event::{Host, HostError};
 
 /// A buffer of bytes that a message is sent from.
@@ -152,7 +151,7 @@ impl MemSocket {
     }
 
     /// Puts a message at the end of the queue.
-    fn send(&mut self, bytes: Bytes, objects: Objects) -> Result<usize, HostError>
+    fn send(&mut self, bytes: Bytes, objects: Listed<u32>) -> Result<usize, HostError>
         ensures refusals { RefusesBy result (HostError.OutOfMemory ∷ []) }
         ensures sent { IfOk result (λ n. (n ≡ length bytes) × (self.new ≡ self.old ++ record { bytes = bytes; objects = objects } ∷ [])) }
         ensures err { OnErr result (self.new ≡ self.old) }
@@ -175,27 +174,13 @@ fn join(alloc: Global, bufs: &[Vec<u8>]) -> Result<Bytes, HostError>
     Ok(Bytes::from_vec(bytes))
 }
 
-/// Writes `from` over the front of `to`, as far as there is room, and answers how many are written.
-fn write_over_bytes(to: &mut [u8], from: &[u8]) -> usize
+/// Writes `from` over the front of `to`, as far as there is room, and answers how many elements are written.
+fn write_over<T: Copy>(to: &mut [T], from: &[T]) -> usize
     ensures count { result ≡ min (length from.now) (length to.old) }
     ensures after { to.new ≡ written_over from.now to.old }
 {
     let count = from.len().min(to.len());
-    for place in 0..count {
-        to[place] = from[place];
-    }
-    count
-}
-
-/// The same of the numbers of objects.
-fn write_over_objects(to: &mut [u32], from: &[u32]) -> usize
-    ensures count { result ≡ min (length from.now) (length to.old) }
-    ensures after { to.new ≡ written_over from.now to.old }
-{
-    let count = from.len().min(to.len());
-    for place in 0..count {
-        to[place] = from[place];
-    }
+    to[..count].copy_from_slice(&from[..count]);
     count
 }
 
@@ -221,7 +206,7 @@ impl ScmSocket for MemSocket {
         object: u32,
     ) -> Result<usize, HostError> {
         let bytes = Bytes::from_slice(alloc, buf.bytes())?;
-        let objects = Objects::from_slice(alloc, &[object])?;
+        let objects = Listed::from_vec(Vec::from_slice(alloc, &[object])?);
         self.send(bytes, objects)
     }
 
@@ -233,7 +218,7 @@ impl ScmSocket for MemSocket {
         objects: &[u32],
     ) -> Result<usize, HostError> {
         let bytes = join(alloc, bufs)?;
-        let objects = Objects::from_slice(alloc, objects)?;
+        let objects = Listed::from_vec(Vec::from_slice(alloc, objects)?);
         self.send(bytes, objects)
     }
 
@@ -250,7 +235,7 @@ impl ScmSocket for MemSocket {
             close_all(host, objects);
             return Err(HostError::ENOBUFS);
         }
-        let count = write_over_bytes(buf, message.bytes.as_slice());
+        let count = write_over(buf, message.bytes.as_slice());
         Ok((count, objects.first().copied()))
     }
 
@@ -268,7 +253,7 @@ impl ScmSocket for MemSocket {
             close_all(host, sent);
             return Err(HostError::ENOBUFS);
         }
-        let count = write_over_bytes(buf, message.bytes.as_slice());
-        Ok((count, write_over_objects(objects, sent)))
+        let count = write_over(buf, message.bytes.as_slice());
+        Ok((count, write_over(objects, sent)))
     }
 }

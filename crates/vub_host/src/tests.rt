@@ -1,6 +1,6 @@
 use crate::{
     ControlOperation, Epoll, EpollContext, EpollEvent, EpollEvents, EventFd, EventFlag, EventSet,
-    Host, HostError, IntoIovec, MemHost, MemSocket, Objects, PollContext, PollEvents, PollToken,
+    Host, HostError, IntoIovec, MemHost, MemSocket, PollContext, PollEvents, PollToken,
     ScmSocket, TimerFd, WatchingEvents, new_event_consumer_and_notifier, timeout_millis,
 };
 use log::sink::Memory;
@@ -331,8 +331,7 @@ fn message_carries_its_objects(rt: HostRuntime) -> Result<(), Fail> {
     ];
     assert_eq!(rt; bufs[0].size(), 2);
     assert_eq!(rt; bufs[1].bytes(), b"c".as_slice());
-    let named = Objects::from_slice(rt.alloc(), &[4, 9])?;
-    let sent = socket.send_with_fds(rt.alloc(), &mut host, &bufs, named.as_slice())?;
+    let sent = socket.send_with_fds(rt.alloc(), &mut host, &bufs, &[4, 9])?;
     assert_eq!(rt; sent, 3);
     let mut buf = [0; 4];
     let mut objects = [0; 3];
