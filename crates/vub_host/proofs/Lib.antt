@@ -1,3 +1,2 @@
-pub mod Timing
 pub mod Waiting
 pub mod Writing

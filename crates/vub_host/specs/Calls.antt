@@ -1,17 +1,12 @@
--- The calls of counters and interest lists as calls of the host table.
+-- The calls of interest lists as calls of the host table.
 use Rattle.std.specs.Prelude.{ℕ, ◌≡◌, List, ◌++◌, length, take, drop, map, None, Result}
 use Rattle.vub_event.specs.declared.error.HostError.{HostError}
 use Rattle.vub_event.specs.declared.ready.Ready.{Ready}
 use Rattle.vub_event.specs.HostTable.{HostTable, IsNextNumber, ready_members}
-use Rattle.vub_event.specs.HostCalls.{Meets, Done, consume_refusal, consume_after, flags_refusal, create_event_after, create_list_after, list_refusal, member_for, AddCall, ModifyCall, DeleteCall}
+use Rattle.vub_event.specs.HostCalls.{Meets, create_list_after, list_refusal, member_for, AddCall, ModifyCall, DeleteCall}
 use Rattle.vub_host.specs.declared.epoll.EpollEvent.{EpollEvent}
 use Rattle.vub_host.specs.declared.epoll.ControlOperation.{ControlOperation}
 use Rattle.vub_host.specs.declared.epoll.ControlOperation.TheVariants.{Add, Delete, Modify}
-
--- a new event object with these flags, whose number is read by `number`
-abbrev pub MakesEvent : {T : Type 0} → (T → ℕ) → ℕ → Result T HostError → HostTable → HostTable → Type 0
-MakesEvent number flags result old =
-    Meets (flags_refusal flags) (λ made. IsNextNumber old.objects (number made)) (create_event_after old flags) result old
 
 -- a new interest list
 abbrev pub MakesList : {T : Type 0} → (T → ℕ) → Result T HostError → HostTable → HostTable → Type 0
@@ -42,7 +37,3 @@ WaitCall list before now result old =
 abbrev pub PollCall : {T : Type 0} → (T → List EpollEvent) → ℕ → Result T HostError → HostTable → HostTable → Type 0
 PollCall events list result old =
     Meets (list_refusal old list) (λ polled. events polled ≡ events_of old list 16) old result old
-
--- a read of a counter that does not answer the count
-abbrev pub ReadsCounter : {T : Type 0} → ℕ → Result T HostError → HostTable → HostTable → Type 0
-ReadsCounter object result old = Meets (consume_refusal old object) Done (consume_after old object) result old

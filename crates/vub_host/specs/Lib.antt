@@ -1,3 +1,7 @@
+pub use Rattle.vub_counter.specs.CounterCalls
+pub use Rattle.vub_counter.specs.Flags
+pub use Rattle.vub_counter.specs.Messages
+pub use Rattle.vub_counter.specs.Timer
 pub use Rattle.vub_event.specs.Counter
 pub use Rattle.vub_event.specs.Errors
 pub use Rattle.vub_event.specs.Faults
@@ -6,8 +10,5 @@ pub use Rattle.vub_event.specs.HostTable
 pub use Rattle.vub_event.specs.InterestList
 pub use Rattle.vub_event.specs.Laws
 pub mod Calls
-pub mod Flags
-pub mod Messages
 pub mod PollEvents
-pub mod Timer
 pub mod Waits

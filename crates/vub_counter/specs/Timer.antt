@@ -3,7 +3,7 @@
 use Rattle.std.specs.Prelude.{ℕ, ◌+◌, ◌-◌, ◌/◌, ◌%◌, ◌≡◌, ◌≤◌, ◌<◌, ◌^◌, ◌==◌, ◌||◌, Bool, false, not, if◌then◌else◌, nat_lt, min, Option, Some, None}
 use Rattle.std.specs.Duration.{as_nanos, max_nanos}
 use Rattle.std.specs.declared.time.Duration.{Duration}
-use Rattle.vub_host.specs.declared.timer.Armed.{Armed}
+use Rattle.vub_counter.specs.declared.timer.Armed.{Armed}
 
 -- how many of its expiries are not after this moment
 abbrev pub expiries : Option Armed → ℕ → ℕ

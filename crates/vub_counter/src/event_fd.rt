@@ -4,7 +4,7 @@ ghost use Rattle.vub_base.specs.Told.{Told};
 ghost use Rattle.vub_event.specs.Errors.{RefusesBy};
 ghost use Rattle.vub_event.specs.Faults.{CountsFaults};
 ghost use Rattle.vub_event.specs.HostCalls.{SignalCall, ConsumeCall};
-ghost use Rattle.vub_host.specs.Calls.{MakesEvent};
+ghost use Rattle.vub_counter.specs.CounterCalls.{MakesEvent};
 
 use std::alloc::Global;
 use vub_event::{Host, HostError};

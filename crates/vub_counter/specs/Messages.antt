@@ -7,7 +7,7 @@ use Rattle.vub_event.specs.declared.error.HostError.{HostError}
 use Rattle.vub_event.specs.declared.error.HostError.TheVariants.{WouldBlock, ENOBUFS}
 use Rattle.vub_event.specs.HostTable.{HostTable}
 use Rattle.vub_event.specs.HostCalls.{close_after}
-use Rattle.vub_host.specs.declared.message.Message.{Message}
+use Rattle.vub_counter.specs.declared.message.Message.{Message}
 
 -- the table once these objects are closed, one after the other
 abbrev pub closed : HostTable → List ℕ → HostTable

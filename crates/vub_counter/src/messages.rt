@@ -1,7 +1,7 @@
 ghost use Rattle.std.specs.Prelude.{◌≡◌, ◌++◌, ◌∷◌, [], ℕ, List, length, min, IfOk, OnErr};
 ghost use Rattle.vub_base.specs.Told.{Told};
 ghost use Rattle.vub_event.specs.Errors.{RefusesBy};
-ghost use Rattle.vub_host.specs.Messages.{written_over, joined, closed};
+ghost use Rattle.vub_counter.specs.Messages.{written_over, joined, closed};
 
 use crate::message::Message;
 use std::alloc::Global;
@@ -54,8 +54,8 @@ pub trait ScmSocket: Drop {
     ghost use Rattle.vub_base.specs.Told.{Told};
     ghost use Rattle.vub_event.specs.declared.error.HostError.{HostError};
     ghost use Rattle.vub_event.specs.Errors.{RefusesBy};
-    ghost use Rattle.vub_host.specs.declared.message.Message.{Message};
-    ghost use Rattle.vub_host.specs.Messages.{Receives, ReceivesOne, receive_after, joined};
+    ghost use Rattle.vub_counter.specs.declared.message.Message.{Message};
+    ghost use Rattle.vub_counter.specs.Messages.{Receives, ReceivesOne, receive_after, joined};
 
     // the messages that were sent and not yet received, the oldest first
     ghost queue: { Self → List Message };
@@ -133,7 +133,7 @@ pub struct MemSocket {
 
 impl Model for MemSocket {
     ghost use Rattle.std.specs.Prelude.{List};
-    ghost use Rattle.vub_host.specs.declared.message.Message.{Message};
+    ghost use Rattle.vub_counter.specs.declared.message.Message.{Message};
 
     ghost Value = { List Message };
 

@@ -4,8 +4,8 @@ ghost use Rattle.vub_event.specs.Counter.{has_bits};
 ghost use Rattle.vub_event.specs.Errors.{RefusesBy};
 ghost use Rattle.vub_event.specs.Faults.{CountsFaults};
 ghost use Rattle.vub_event.specs.HostCalls.{SignalCall};
-ghost use Rattle.vub_host.specs.Calls.{MakesEvent, ReadsCounter};
-ghost use Rattle.vub_host.specs.Flags.{made_flags};
+ghost use Rattle.vub_counter.specs.CounterCalls.{MakesEvent, ReadsCounter};
+ghost use Rattle.vub_counter.specs.Flags.{made_flags};
 
 use crate::event_flag::EventFlag;
 use std::alloc::Global;

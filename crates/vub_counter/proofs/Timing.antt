@@ -2,8 +2,8 @@
 use Rattle.std.proofs.Common.{ℕ, ◌+◌, ◌-◌, ◌*◌, ◌/◌, ◌%◌, ◌<◌, ◌≤◌, ◌≡◌, Bool, true, false, nat_lt, ◌==◌, Option, Some, None, ◌∙◌, ap, refl, arith}
 use Rattle.std.proofs.lemmas.Nat.{div-add-mod', div-mul-add, mod_below}
 use Rattle.std.proofs.lemmas.Bool.Decides.{nat_tests}
-use Rattle.vub_host.specs.declared.timer.Armed.{Armed}
-use Rattle.vub_host.specs.Timer.{expiries, after_wait, CountsOnce}
+use Rattle.vub_counter.specs.declared.timer.Armed.{Armed}
+use Rattle.vub_counter.specs.Timer.{expiries, after_wait, CountsOnce}
 
 -- a quotient is known by its remainder
 quotient : (n q r m : ℕ) → n ≡ q * m + r → r < m → n / m ≡ q

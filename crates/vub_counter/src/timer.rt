@@ -1,6 +1,6 @@
 ghost use Rattle.std.specs.Prelude.{◌≡◌, ◌<◌, ◌^◌, ◌-◌, None, min, MatchResult};
 ghost use Rattle.std.specs.Duration.{as_nanos};
-ghost use Rattle.vub_host.specs.Timer.{CountsOnce, expiries, after_wait, set_timer, is_armed, interval_of};
+ghost use Rattle.vub_counter.specs.Timer.{CountsOnce, expiries, after_wait, set_timer, is_armed, interval_of};
 
 use std::marker::Model;
 use std::time::Duration;
@@ -21,11 +21,11 @@ pub struct TimerFd {
 
 impl Model for TimerFd {
     ghost use Rattle.std.specs.Prelude.{Option};
-    ghost use Rattle.vub_host.specs.declared.timer.Armed.{Armed};
+    ghost use Rattle.vub_counter.specs.declared.timer.Armed.{Armed};
 
     ghost Value = { Option Armed };
 
-    ghost use Rattle.vub_host.specs.Timer.{IsSmall};
+    ghost use Rattle.vub_counter.specs.Timer.{IsSmall};
 
     ghost view = { λ t. t.armed };
 

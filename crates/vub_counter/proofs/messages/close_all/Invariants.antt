@@ -1,7 +1,7 @@
 use Rattle.std.proofs.Common.{◌≡◌, drop}
 use Rattle.vub_base.specs.Told.{Told}
-use Rattle.vub_host.specs.Messages.{closed}
-use Rattle.vub_host.proofs.messages.close_all.Given as goal
+use Rattle.vub_counter.specs.Messages.{closed}
+use Rattle.vub_counter.proofs.messages.close_all.Given as goal
 
 abbrev pub invariant-loop-object : goal.invariant-loop-object
 invariant-loop-object g l = record {

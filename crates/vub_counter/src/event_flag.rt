@@ -1,5 +1,5 @@
 ghost use Rattle.std.specs.Prelude.{⊤, [], ◌∷◌, ◌≡◌, codes};
-ghost use Rattle.vub_host.specs.Flags.{made_flags};
+ghost use Rattle.vub_counter.specs.Flags.{made_flags};
 
 use bitflags::{Flag, Flags, bitflag_items};
 

@@ -1,0 +1,4 @@
+pub mod CounterCalls
+pub mod Flags
+pub mod Messages
+pub mod Timer
