@@ -4,10 +4,12 @@ use Rattle.std.specs.Prelude.{◌≡◌, ◌⊎◌, ℕ, Bool, true, false, if�
 use Rattle.vub_base.specs.Told.{Told}
 use Rattle.vub_base.specs.Causes.{Rose}
 use Rattle.vub_mem.specs.Memory.{Guest}
+use Rattle.vub_mem.specs.Marks.{Mark}
+use Rattle.vub_mem.specs.declared.region.Region.{Region}
 use Rattle.vub_event.specs.HostTable.{HostTable}
 use Rattle.vub_queue.specs.Function.{took_of}
-use Rattle.vub_queue.specs.Take.{guest_taken}
-use Rattle.vub_queue.specs.Put.{put_answer, put_guest, ring_used}
+use Rattle.vub_queue.specs.Take.{guest_taken, marks_taken}
+use Rattle.vub_queue.specs.Put.{put_answer, put_guest, put_marks, ring_used}
 use Rattle.vub_queue.specs.Notification.{wants_notification}
 use Rattle.vub_queue.specs.declared.chain.Chain.{Chain}
 use Rattle.vub_queue.specs.declared.took.Took.{Took}
@@ -55,6 +57,18 @@ guest_found g r (took.Entry c) = g
 guest_found g r took.None = guest_none g r
 guest_found g r (took.Damaged d) = g
 
+-- The pages that a take marks: those of the word in which a live ring with notifications by index publishes the number
+-- of the next entry, where nothing was found.
+abbrev pub marks_found : List Region → Vring → Took → List Mark
+marks_found rs r (took.Entry c) = []
+marks_found rs r took.None = if is_live r then marks_taken rs r.queue took.None else []
+marks_found rs r (took.Damaged d) = []
+
+abbrev pub table_marks : List Region → Vring → TableRingSaid → List Mark
+table_marks rs r (table_said.Taken epoch number c) = []
+table_marks rs r table_said.Nothing = marks_found rs r took.None
+table_marks rs r (table_said.Damaged d) = []
+
 abbrev pub TakePlays : TableRingSaid → Vring → Guest → Vring → Guest → Type 0
 TakePlays (table_said.Taken epoch number c) r g ring guest =
     (found g r ≡ took.Entry c) × (epoch ≡ r.epoch) × (number ≡ next_number r) × (ring ≡ ring_after r op.Taken) × (guest ≡ g)
@@ -92,6 +106,11 @@ PutPlays c reply put_said.Done r g ring guest =
     (wanted : Bool) × (put_found g r c reply ≡ Ok wanted) × (ring ≡ ring_after r op.Put) × (guest ≡ put_guest g r.queue c reply)
 PutPlays c reply (put_said.Held fault) r g ring guest =
     (put_found g r c reply ≡ Err fault) × (ring ≡ ring_after r op.Hold) × (guest ≡ g)
+
+-- the pages that a use marks: those of the reply and of the used ring; a use that is held marks none
+abbrev pub use_marks : List Region → Vring → Chain → List ℕ → PutSaid → List Mark
+use_marks rs r c reply put_said.Done = put_marks rs r.queue c reply
+use_marks rs r c reply (put_said.Held fault) = []
 
 -- the table after the call is signalled, if there is one
 abbrev pub table_called : Option ℕ → HostTable → HostTable

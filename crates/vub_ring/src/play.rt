@@ -1,12 +1,13 @@
 //! The steps of the machine on lent parts, for any ring that ops change, any log of dirty pages and any host.
 ghost use Rattle.std.specs.Prelude.{◌≡◌, ◌≤◌, ◌<◌, IsSome, Ok, Err, IfOk, OnOk, OnErr, IsErrOf, length, sum_by};
 ghost use Rattle.vub_base.specs.Told.{Told};
+ghost use Rattle.vub_mem.specs.Marks.{MarksAll, page_marks};
 ghost use Rattle.vub_queue.specs.Function.{took_of};
 ghost use Rattle.vub_queue.specs.Take as take_specs;
-ghost use Rattle.vub_queue.specs.Put.{put_guest};
+ghost use Rattle.vub_queue.specs.Put.{put_guest, put_marks};
 ghost use Rattle.vub_model.specs.RingRecord.{ring_said, ring_after};
 ghost use Rattle.vub_ring.specs.Faults.{CountsFaults};
-ghost use Rattle.vub_ring.specs.Play.{found, guest_found, HasRoom, OnTable, TablePlays, TakePlays, kick_said, KickTable, put_found, PutPlays, table_put, table_called, table_wanted, CallsIf, PutTable, PendPlays};
+ghost use Rattle.vub_ring.specs.Play.{found, guest_found, marks_found, table_marks, use_marks, HasRoom, OnTable, TablePlays, TakePlays, kick_said, KickTable, put_found, PutPlays, table_put, table_called, table_wanted, CallsIf, PutTable, PendPlays};
 
 use crate::events::{raise_anyway, read_anyway};
 use crate::ops::{KickSaid, PartsError, PendOp, PendSaid, PutSaid, TableRing, TableRingSaid};
@@ -37,6 +38,7 @@ fn take_with<L: DirtyLog, K: Ledger>(
     requires some { 0 < K.parts }
     ensures took { IfOk result (λ t. t ≡ took_of memory.old.guest queue.old) }
     ensures guest { IfOk result (λ t. memory.new.guest ≡ take_specs.guest_taken memory.old.guest queue.old t) }
+    ensures logs { IfOk result (λ t. MarksAll (page_marks L.byte_len L.marks) memory.old.logs (take_specs.marks_taken memory.old.guest.regions queue.old t) memory.new.logs) }
     ensures room { IfOk result take_specs.HasRoom }
     ensures err { OnErr result (memory.new ≡ memory.old) }
 {
@@ -53,6 +55,7 @@ fn take_uncounted<L: DirtyLog>(
     requires { IsSome queue.old.addresses }
     ensures took { IfOk result (λ t. t ≡ took_of memory.old.guest queue.old) }
     ensures guest { IfOk result (λ t. memory.new.guest ≡ take_specs.guest_taken memory.old.guest queue.old t) }
+    ensures logs { IfOk result (λ t. MarksAll (page_marks L.byte_len L.marks) memory.old.logs (take_specs.marks_taken memory.old.guest.regions queue.old t) memory.new.logs) }
     ensures room { IfOk result take_specs.HasRoom }
     ensures err { OnErr result (memory.new ≡ memory.old) }
 {
@@ -98,6 +101,7 @@ fn take_found<L: DirtyLog>(
 ) -> Result<Took, OutOfMemory>
     ensures took { IfOk result (λ t. t ≡ found memory.old.guest ring.now) }
     ensures guest { IfOk result (λ t. memory.new.guest ≡ guest_found memory.old.guest ring.now t) }
+    ensures logs { IfOk result (λ t. MarksAll (page_marks L.byte_len L.marks) memory.old.logs (marks_found memory.old.guest.regions ring.now t) memory.new.logs) }
     ensures room { IfOk result take_specs.HasRoom }
     ensures err { OnErr result (memory.new ≡ memory.old) }
 {
@@ -115,6 +119,7 @@ fn play_take<R: RingState, L: DirtyLog>(
     memory: &mut GuestMemory<L>,
 ) -> Result<TableRingSaid, OutOfMemory>
     ensures row { IfOk result (λ said. TakePlays said (R.ring ring.old) memory.old.guest (R.ring ring.new) memory.new.guest) }
+    ensures logs { IfOk result (λ said. MarksAll (page_marks L.byte_len L.marks) memory.old.logs (table_marks memory.old.guest.regions (R.ring ring.old) said) memory.new.logs) }
     ensures room { IfOk result HasRoom }
     ensures ring { OnErr result (R.ring ring.new ≡ R.ring ring.old) }
     ensures err { OnErr result (memory.new ≡ memory.old) }
@@ -149,6 +154,7 @@ pub fn play_table<R: RingState, L: DirtyLog>(
     op: TableRing,
 ) -> Result<TableRingSaid, PartsError>
     ensures row { IfOk result (λ said. TablePlays op said (R.ring ring.old) memory.old.guest (R.ring ring.new) memory.new.guest) }
+    ensures logs { IfOk result (λ said. MarksAll (page_marks L.byte_len L.marks) memory.old.logs (table_marks memory.old.guest.regions (R.ring ring.old) said) memory.new.logs) }
     ensures room { IfOk result HasRoom }
     ensures ring { OnErr result (R.ring ring.new ≡ R.ring ring.old) }
     ensures err { OnErr result (memory.new ≡ memory.old) }
@@ -202,6 +208,7 @@ fn put_found<L: DirtyLog>(
     requires room { chain.now.room ≡ sum_by (λ s. s.len) chain.now.segments }
     ensures answer { result ≡ put_found memory.old.guest ring.now chain.now reply.now }
     ensures put { OnOk result (memory.new.guest ≡ put_guest memory.old.guest ring.now.queue chain.now reply.now) }
+    ensures logs { OnOk result (MarksAll (page_marks L.byte_len L.marks) memory.old.logs (put_marks memory.old.guest.regions ring.now.queue chain.now reply.now) memory.new.logs) }
     ensures err { OnErr result (memory.new ≡ memory.old) }
 {
     let mut queue = ring.get_queue().copy();
@@ -248,6 +255,7 @@ fn play_use<R: RingState, L: DirtyLog, H: Host>(
     requires fits { length reply.now ≤ entry.now.chain.room }
     requires room { entry.now.chain.room ≡ sum_by (λ s. s.len) entry.now.chain.segments }
     ensures row { PutPlays entry.now.chain reply.now result (R.ring ring.old) memory.old.guest (R.ring ring.new) memory.new.guest }
+    ensures logs { MarksAll (page_marks L.byte_len L.marks) memory.old.logs (use_marks memory.old.guest.regions (R.ring ring.old) entry.now.chain reply.now result) memory.new.logs }
     ensures table { Told (H.held host.old) (H.held host.new) (λ old new. PutTable (H.fault_count host.old) (H.fault_count host.new) (R.ring ring.old).call (put_found memory.old.guest (R.ring ring.old) entry.now.chain reply.now) old new) }
     ensures sound { H.never_fails host.old → Told (H.held host.old) (H.held host.new) (λ old new. new ≡ table_put (R.ring ring.old).call (put_found memory.old.guest (R.ring ring.old) entry.now.chain reply.now) old) }
     ensures later { H.fault_count host.old ≤ H.fault_count host.new }
@@ -283,6 +291,7 @@ pub fn play_put<R: RingState, L: DirtyLog, H: Host>(
     requires fits { length reply.now ≤ entry.now.chain.room }
     requires room { entry.now.chain.room ≡ sum_by (λ s. s.len) entry.now.chain.segments }
     ensures row { IfOk result (λ said. PutPlays entry.now.chain reply.now said (R.ring ring.old) memory.old.guest (R.ring ring.new) memory.new.guest) }
+    ensures logs { IfOk result (λ said. MarksAll (page_marks L.byte_len L.marks) memory.old.logs (use_marks memory.old.guest.regions (R.ring ring.old) entry.now.chain reply.now said) memory.new.logs) }
     ensures table { OnTable result (H.held host.old) (H.held host.new) (λ said old new. PutTable (H.fault_count host.old) (H.fault_count host.new) (R.ring ring.old).call (put_found memory.old.guest (R.ring ring.old) entry.now.chain reply.now) old new) }
     ensures sound { H.never_fails host.old → OnTable result (H.held host.old) (H.held host.new) (λ said old new. new ≡ table_put (R.ring ring.old).call (put_found memory.old.guest (R.ring ring.old) entry.now.chain reply.now) old) }
     ensures ring { OnErr result (R.ring ring.new ≡ R.ring ring.old) }

@@ -1,10 +1,11 @@
 //! All parts but the service, and the steps on the ring of one queue and the pending set of one worker.
 ghost use Rattle.std.specs.Prelude.{◌≡◌, ◌≤◌, [], Some, Ok, IfOk, OnOk, OnErr, IsErrOf, length, sum_by, slice_set};
+ghost use Rattle.vub_mem.specs.Marks.{MarksAll, page_marks};
 ghost use Rattle.vub_model.specs.RingRecord.{closed_ring, ring_said, ring_after};
 ghost use Rattle.vub_ring.specs.Play.{HasRoom};
 ghost use Rattle.vub_vring.specs.Calls.{HostTableCall, IsSaid};
 ghost use Rattle.vub_ring.specs.Faults.{CountsFaults};
-ghost use Rattle.vub_ring.specs.Play.{OnTable, KickTable, kick_said, put_found, PutTable, table_put, PendPlays};
+ghost use Rattle.vub_ring.specs.Play.{OnTable, KickTable, kick_said, put_found, table_marks, use_marks, PutTable, table_put, PendPlays};
 ghost use Rattle.vub_vring.specs.Store.{ring_in, left_by, TakesAt, PutsAt, PendsAt};
 
 use crate::hosting::{play_host, ready};
@@ -67,6 +68,7 @@ pub(crate) fn take_at<L: DirtyLog>(
     queue: u32,
 ) -> Result<TableRingSaid, PartsError>
     ensures row { IfOk result (λ said. TakesAt queue said rings.old.items memory.old.guest rings.new.items memory.new.guest) }
+    ensures logs { IfOk result (λ said. MarksAll (page_marks L.byte_len L.marks) memory.old.logs (table_marks memory.old.guest.regions (ring_in rings.old.items queue) said) memory.new.logs) }
     ensures room { IfOk result HasRoom }
     ensures rings { OnErr result (rings.new.items ≡ rings.old.items) }
     ensures err { OnErr result (memory.new ≡ memory.old) }
@@ -113,6 +115,7 @@ pub(crate) fn put_at<L: DirtyLog, H: Host>(
     requires fits { length reply.now ≤ entry.now.chain.room }
     requires room { entry.now.chain.room ≡ sum_by (λ s. s.len) entry.now.chain.segments }
     ensures row { IfOk result (λ said. PutsAt entry.now.queue entry.now.chain reply.now said rings.old.items memory.old.guest rings.new.items memory.new.guest) }
+    ensures logs { IfOk result (λ said. MarksAll (page_marks L.byte_len L.marks) memory.old.logs (use_marks memory.old.guest.regions (ring_in rings.old.items entry.now.queue) entry.now.chain reply.now said) memory.new.logs) }
     ensures table { OnTable result (H.held host.old) (H.held host.new) (λ said old new. PutTable (H.fault_count host.old) (H.fault_count host.new) (ring_in rings.old.items entry.now.queue).call (put_found memory.old.guest (ring_in rings.old.items entry.now.queue) entry.now.chain reply.now) old new) }
     ensures sound { H.never_fails host.old → OnTable result (H.held host.old) (H.held host.new) (λ said old new. new ≡ table_put (ring_in rings.old.items entry.now.queue).call (put_found memory.old.guest (ring_in rings.old.items entry.now.queue) entry.now.chain reply.now) old) }
     ensures rings { OnErr result (rings.new.items ≡ rings.old.items) }
