@@ -135,6 +135,11 @@ PutTable before now call (Err fault) old new = new ≡ old
 
 -- Pend
 
+-- an Insert alone may want memory
+abbrev pub inserts : PendOp → Bool
+inserts (pend.Insert n) = true
+inserts o = false
+
 abbrev pub PendPlays : PendOp → PendSaid → List ℕ → List ℕ → Type 0
 PendPlays (pend.Insert n) pend_said.Done old new = new ≡ with_number old n
 PendPlays (pend.Remove n) pend_said.Done old new = new ≡ without_number old n

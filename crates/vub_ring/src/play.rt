@@ -1,5 +1,5 @@
 //! The steps of the machine on lent parts, for any ring that ops change, any log of dirty pages and any host.
-ghost use Rattle.std.specs.Prelude.{◌≡◌, ◌≤◌, ◌<◌, IsSome, Ok, Err, IfOk, OnOk, OnErr, IsErrOf, length, sum_by};
+ghost use Rattle.std.specs.Prelude.{◌≡◌, ◌≤◌, ◌<◌, IsSome, Ok, Err, IfOk, OnOk, OnErr, IsErrOf, IsOk, IsTrue, length, sum_by};
 ghost use Rattle.vub_base.specs.Told.{Told};
 ghost use Rattle.vub_mem.specs.Marks.{MarksAll, page_marks};
 ghost use Rattle.vub_queue.specs.Function.{took_of};
@@ -7,7 +7,7 @@ ghost use Rattle.vub_queue.specs.Take as take_specs;
 ghost use Rattle.vub_queue.specs.Put.{put_guest, put_marks};
 ghost use Rattle.vub_model.specs.RingRecord.{ring_said, ring_after};
 ghost use Rattle.vub_ring.specs.Faults.{CountsFaults};
-ghost use Rattle.vub_ring.specs.Play.{found, guest_found, marks_found, table_marks, use_marks, HasRoom, OnTable, TablePlays, TakePlays, kick_said, KickTable, put_found, PutPlays, table_put, table_called, table_wanted, CallsIf, PutTable, PendPlays};
+ghost use Rattle.vub_ring.specs.Play.{found, guest_found, marks_found, table_marks, use_marks, HasRoom, OnTable, TablePlays, TakePlays, kick_said, KickTable, put_found, PutPlays, table_put, table_called, table_wanted, CallsIf, PutTable, PendPlays, inserts};
 
 use crate::events::{raise_anyway, read_anyway};
 use crate::ops::{KickSaid, PartsError, PendOp, PendSaid, PutSaid, TableRing, TableRingSaid};
@@ -65,7 +65,7 @@ fn take_uncounted<L: DirtyLog>(
 /// Applies an op to a ring. An op that the ring does not take is not applied, changes nothing and says Done.
 ///
 /// # Errors
-/// Want of memory leaves the ring as it was.
+/// Want of memory leaves the ring as it was; never where there is room for an op.
 pub fn play_ring<R: RingState>(
     _alloc: Global,
     ring: &mut R,
@@ -73,6 +73,7 @@ pub fn play_ring<R: RingState>(
 ) -> Result<RingSaid, PartsError>
     ensures said { IfOk result (λ said. said ≡ ring_said (R.ring ring.old) op) }
     ensures ring { OnOk result (R.ring ring.new ≡ ring_after (R.ring ring.old) op) }
+    ensures spare { 0 < R.spare ring.old → IsOk result }
     ensures err { OnErr result (R.ring ring.new ≡ R.ring ring.old) }
     ensures only { ¬ (IsErrOf result PartsError.Fault) }
 {
@@ -311,6 +312,7 @@ pub fn play_put<R: RingState, L: DirtyLog, H: Host>(
 /// Want of memory at an Insert leaves the set as it was.
 pub fn play_pend(alloc: Global, pending: &mut Pending, op: PendOp) -> Result<PendSaid, PartsError>
     ensures row { IfOk result (λ said. PendPlays op said pending.old pending.new) }
+    ensures memory { IsErrOf result PartsError.OutOfMemory → IsTrue (inserts op) }
     ensures err { OnErr result (pending.new ≡ pending.old) }
     ensures only { ¬ (IsErrOf result PartsError.Fault) }
 {

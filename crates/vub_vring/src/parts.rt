@@ -4,7 +4,7 @@ ghost use Rattle.std.specs.Option.{ForSome};
 ghost use Rattle.vub_model.specs.declared.constants.Constants.{Constants};
 ghost use Rattle.vub_model.specs.Held.{Held};
 ghost use Rattle.vub_model.specs.Service.{meaning};
-ghost use Rattle.vub_ring.specs.Play.{HasRoom};
+ghost use Rattle.vub_ring.specs.Play.{HasRoom, inserts};
 ghost use Rattle.vub_vring.specs.Calls.{Called, RingCall, TableRingCall, KickCall, PutCall, PutUncalled, PendCall, ServiceCall, HostCall, IsSaid};
 ghost use Rattle.vub_ring.specs.Faults.{CountsFaults};
 
@@ -114,9 +114,10 @@ pub trait Parts {
     /// Changes a worker's pending set.
     ///
     /// # Errors
-    /// Want of memory.
+    /// Want of memory, at an `Insert` alone.
     fn pend(&mut self, alloc: Global, worker: u32, op: PendOp) -> Result<PendSaid, PartsError>
         ensures row { Called result (held self.old) (held self.new) (PendCall worker op) }
+        ensures memory { IsErrOf result PartsError.OutOfMemory → IsTrue (inserts op) }
         ensures faults { CountsFaults (fault_count self.old) (fault_count self.new) (never_fails self.old) (never_fails self.new) result }
         ensures loan { loan self.new ≡ loan self.old }
         ensures constants { told_constants self.new ≡ told_constants self.old };

@@ -1,11 +1,11 @@
 //! All parts but the service, and the steps on the ring of one queue and the pending set of one worker.
-ghost use Rattle.std.specs.Prelude.{◌≡◌, ◌≤◌, [], Some, Ok, IfOk, OnOk, OnErr, IsErrOf, length, sum_by, slice_set};
+ghost use Rattle.std.specs.Prelude.{◌≡◌, ◌≤◌, [], Some, Ok, IfOk, OnOk, OnErr, IsErrOf, IsTrue, length, sum_by, slice_set};
 ghost use Rattle.vub_mem.specs.Marks.{MarksAll, page_marks};
 ghost use Rattle.vub_model.specs.RingRecord.{closed_ring, ring_said, ring_after};
 ghost use Rattle.vub_ring.specs.Play.{HasRoom};
 ghost use Rattle.vub_vring.specs.Calls.{HostTableCall, IsSaid};
 ghost use Rattle.vub_ring.specs.Faults.{CountsFaults};
-ghost use Rattle.vub_ring.specs.Play.{OnTable, KickTable, kick_said, put_found, table_marks, use_marks, PutTable, table_put, PendPlays};
+ghost use Rattle.vub_ring.specs.Play.{OnTable, KickTable, kick_said, put_found, table_marks, use_marks, PutTable, table_put, PendPlays, inserts};
 ghost use Rattle.vub_vring.specs.Store.{ring_in, left_by, TakesAt, PutsAt, PendsAt};
 
 use crate::hosting::{play_host, ready};
@@ -139,6 +139,7 @@ pub(crate) fn pend_at(
     op: PendOp,
 ) -> Result<PendSaid, PartsError>
     ensures row { IfOk result (λ said. PendsAt worker op said pending.old.items pending.new.items) }
+    ensures memory { IsErrOf result PartsError.OutOfMemory → IsTrue (inserts op) }
     ensures err { OnErr result (pending.new.items ≡ pending.old.items) }
     ensures only { ¬ (IsErrOf result PartsError.Fault) }
 {
