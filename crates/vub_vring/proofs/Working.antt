@@ -1,5 +1,5 @@
 -- Opening a worker, step by step.
-use Rattle.std.proofs.Common.{◌≡◌, ℕ, suc, zero, ◌≤◌, ◌<◌, Bool, true, false, nat_lt, nat_eq, if◌then◌else◌, List, [], ◌∷◌, ◌++◌, length, slice_index_or, slice_set, Option, Some, None, is_some, is_none, Result, Ok, Err, not, ◌&&◌, length-append, refl, sym, ap, subst, ◌∙◌, arith}
+use Rattle.std.proofs.Common.{◌≡◌, ℕ, suc, zero, ◌≤◌, ◌<◌, Bool, true, false, nat_lt, nat_eq, if◌then◌else◌, List, [], ◌∷◌, ◌++◌, length, slice_index_or, slice_set, Option, Some, None, is_some, is_none, Result, Ok, Err, not, ◌&&◌, length-append, ◌⊎◌, inl, inr, refl, sym, ap, subst, ◌∙◌, arith}
 use Rattle.std.proofs.lemmas.Bool.Decides.{nat_tests}
 use Rattle.std.specs.Option.{ForSome}
 use Rattle.vub_base.specs.Causes.{Rose}
@@ -25,7 +25,7 @@ use Rattle.vub_ring.specs.declared.ops.PartsError.{PartsError}
 use Rattle.vub_ring.specs.declared.ops.PartsError.TheVariants as parts_error
 use Rattle.vub_vring.specs.Calls.{HostCall, IsSaid}
 use Rattle.vub_ring.specs.Faults.{CountsFaults}
-use Rattle.vub_vring.specs.Worker.{exit_in, HasExit, Opens, OpensFor, number_of, error_of, MakesList, MakesBell, joined_table, Joins, JoinsExit, IsOpeningFault, OpensBy}
+use Rattle.vub_vring.specs.Worker.{exit_in, HasExit, Opens, OpensFor, number_of, error_of, MakesList, MakesBell, joined_table, Joins, JoinsExit, IsOpeningFault, OpensBy, with_exit, with_bell, Leaves, LeavesMade, Stops}
 use Rattle.vub_ring.proofs.Settling.{told-map}
 
 -- The calls of the host
@@ -40,6 +40,9 @@ list-made (said.Refused e) old new m = absurd m.0
 
 pub told_list : {V : Type 0} (s : HostSaid) (old new : Option (Held V)) → Told old new (HostCall host.CreateList s) → Told old new (MakesList (number_of s))
 told_list s old new h = told-map old new (HostCall host.CreateList s) (MakesList (number_of s)) (list-made s) h
+
+some-is : {A : Type 0} {x y : A} → Some x ≡ Some y → x ≡ y
+some-is h = cc
 
 none-due : {A : Type 0} (x : A) → None ≡ Some x → ⊥
 none-due x h = cc
@@ -131,6 +134,11 @@ opens_same before now Sound Still x is still = record { later = omega (arith, is
 
 pub opens_lacking : {T : Type 0} (before now : ℕ) (Sound Still : Type 0) → now ≡ before → (Sound → Still) → OpensBy {T = T} before now Sound Still (Err Lacking)
 opens_lacking before now Sound Still is still = record { later = omega (arith, is); cause = tt; still = still; sound = λ s. refl }
+
+-- a call that was not made
+pub stops_by : {A : Type 0} (e : PartsError) (fault : VringEpollError) (old new : A) → new ≡ old → Stops fault old new (error_of e fault)
+stops_by parts_error.Fault fault old new same = (inl refl, same)
+stops_by parts_error.OutOfMemory fault old new same = (inr refl, same)
 
 -- The table
 
@@ -230,3 +238,74 @@ opened_for told constants worker w old new are exit opens k is =
     let same : constants ≡ k = are k is in
     let P : Constants → Type 0 = λ c. Told old new (Opens c.queues w) in
     (exit ∙ ap (λ c. exit_in c worker) same, subst P same opens)
+
+-- What is left where a step is not made
+
+exit-is : (t : HostTable) (queues : ℕ) (exit : Option ℕ) → exit-table (create_list_after t) (length t.lists) exit queues ≡ with_exit t queues exit
+unfolding exit-table
+exit-is t queues None = refl
+exit-is t queues (Some exit) = refl
+
+-- the table after the list is made; after the exit object; after the bell
+list-left : {V : Type 0} (list : ℕ) (h one : Held V) → MakesList list h one → one ≡ record h { table = create_list_after h.table }
+list-left list h one makes = makes.1
+
+exit-left : {V : Type 0} (queues list : ℕ) (exit : Option ℕ) (h one two : Held V) → MakesList list h one → JoinsExit list exit queues one two → two ≡ record h { table = with_exit h.table queues exit }
+exit-left {V} queues list exit h one two makes exits =
+    let second : two ≡ record h { table = exit-table (create_list_after h.table) list exit queues } =
+    exit-held list exit queues one two exits ∙ ap {A = Held V} (λ x. record x { table = exit-table x.table list exit queues }) makes.1 in
+    second ∙ ap {A = HostTable} (λ t. record h { table = t }) (ap (λ n. exit-table (create_list_after h.table) n exit queues) makes.0 ∙ exit-is h.table queues exit)
+
+bell-left : {V : Type 0} (queues list bell : ℕ) (exit : Option ℕ) (h one two three : Held V) → MakesList list h one → JoinsExit list exit queues one two → MakesBell bell two three → three ≡ record h { table = with_bell h.table queues exit }
+bell-left {V} queues list bell exit h one two three makes exits bells =
+    bells.1 ∙ ap {A = Held V} (λ x. record x { table = create_event_after x.table 0x800 }) (exit-left queues list exit h one two makes exits)
+
+-- a step that stops leaves what stood before it
+left-at : {V : Type 0} (queues : ℕ) (exit : Option ℕ) (fault e : VringEpollError) (table : HostTable) (h new : Held V) → Leaves queues exit fault h.table table → Leaves queues exit Lacking h.table table → ((e ≡ fault) ⊎ (e ≡ Lacking)) → new ≡ record h { table = table } → LeavesMade queues exit e h new
+left-at {V} queues exit fault e table h new named lacking answer is =
+    let P : VringEpollError → HostTable → Type 0 = λ x t. Leaves queues exit x h.table t in
+    let same : table ≡ new.table = sym (ap {A = Held V} (λ x. x.table) is) in
+    let leaves : Leaves queues exit e h.table table = elim answer [ inl f ↦ subst (λ x. P x table) (sym f) named | inr l ↦ subst (λ x. P x table) (sym l) lacking ] in
+    (subst (P e) same leaves, is ∙ ap {A = HostTable} (λ t. record h { table = t }) same)
+
+pub lacks_held : {V : Type 0} (queues : ℕ) (exit : Option ℕ) (h new : Option (Held V)) → new ≡ h → Told h new (LeavesMade queues exit Lacking)
+lacks_held queues exit None new is = tt
+lacks_held queues exit (Some h) None is = absurd (cc)
+lacks_held queues exit (Some h) (Some new) is = left-at queues exit EpollCreateFd Lacking h.table h new refl (inl refl) (inr refl) (some-is is)
+
+pub list_stops : {V : Type 0} (queues : ℕ) (exit : Option ℕ) (e : VringEpollError) (h new : Option (Held V)) → Stops EpollCreateFd h new e → Told h new (LeavesMade queues exit e)
+list_stops queues exit e None new s = tt
+list_stops queues exit e (Some h) None s = let is = s.1 in absurd (cc)
+list_stops queues exit e (Some h) (Some new) s = left-at queues exit EpollCreateFd e h.table h new refl (inl refl) s.0 (some-is s.1)
+
+pub exit_stops : {V : Type 0} (queues list : ℕ) (exit : Option ℕ) (e : VringEpollError) (h one new : Option (Held V)) → Told h one (MakesList list) → Stops RegisterExitEvent one new e → Told h new (LeavesMade queues exit e)
+exit_stops queues list exit e None one new a s = tt
+exit_stops queues list exit e (Some h) None new a s = absurd a
+exit_stops queues list exit e (Some h) (Some one) None a s = let is = s.1 in absurd (cc)
+exit_stops queues list exit e (Some h) (Some one) (Some new) a s =
+    left-at queues exit RegisterExitEvent e (create_list_after h.table) h new refl (inr (inl refl)) s.0 (some-is s.1 ∙ list-left list h one a)
+
+pub bell_stops : {V : Type 0} (queues list : ℕ) (exit : Option ℕ) (e : VringEpollError) (h one two new : Option (Held V)) → Told h one (MakesList list) → Told one two (JoinsExit list exit queues) → Stops NewEventConsumerNotifier two new e → Told h new (LeavesMade queues exit e)
+bell_stops queues list exit e None one two new a b s = tt
+bell_stops queues list exit e (Some h) None two new a b s = absurd a
+bell_stops queues list exit e (Some h) (Some one) None new a b s = absurd b
+bell_stops queues list exit e (Some h) (Some one) (Some two) None a b s = let is = s.1 in absurd (cc)
+bell_stops queues list exit e (Some h) (Some one) (Some two) (Some new) a b s =
+    left-at queues exit NewEventConsumerNotifier e (with_exit h.table queues exit) h new refl (inr (inr (inl refl))) s.0 (some-is s.1 ∙ exit-left queues list exit h one two a b)
+
+pub join_stops : {V : Type 0} (queues list bell : ℕ) (exit : Option ℕ) (e : VringEpollError) (h one two three new : Option (Held V)) → Told h one (MakesList list) → Told one two (JoinsExit list exit queues) → Told two three (MakesBell bell) → Stops RegisterVringEnabledEvent three new e → Told h new (LeavesMade queues exit e)
+join_stops queues list bell exit e None one two three new a b c s = tt
+join_stops queues list bell exit e (Some h) None two three new a b c s = absurd a
+join_stops queues list bell exit e (Some h) (Some one) None three new a b c s = absurd b
+join_stops queues list bell exit e (Some h) (Some one) (Some two) None new a b c s = absurd c
+join_stops queues list bell exit e (Some h) (Some one) (Some two) (Some three) None a b c s = let is = s.1 in absurd (cc)
+join_stops queues list bell exit e (Some h) (Some one) (Some two) (Some three) (Some new) a b c s =
+    left-at queues exit RegisterVringEnabledEvent e (with_bell h.table queues exit) h new refl (inr (inr (inr refl))) s.0 (some-is s.1 ∙ bell-left queues list bell exit h one two three a b c)
+
+-- by the device's constants, where they are told
+pub left_for : {V : Type 0} (told : Option Constants) (constants : Constants) (worker : ℕ) (exit : Option ℕ) (e : VringEpollError) (old new : Option (Held V)) → ForSome told (λ k. constants ≡ k) → exit ≡ exit_in constants worker → Told old new (LeavesMade constants.queues exit e) → ForSome told (λ k. Told old new (LeavesMade k.queues (exit_in k worker) e))
+left_for told constants worker exit e old new are is leaves k told-is =
+    let same : constants ≡ k = are k told-is in
+    let P : Constants → Type 0 = λ c. Told old new (LeavesMade c.queues (exit_in c worker) e) in
+    let Q : Option ℕ → Type 0 = λ x. Told old new (LeavesMade constants.queues x e) in
+    subst P same (subst Q is leaves)

@@ -1,5 +1,5 @@
 -- A worker that is opened: what is held with its interest list and its bell, and why it can't be opened.
-use Rattle.std.specs.Prelude.{◌≡◌, ℕ, ◌≤◌, true, if◌then◌else◌, [], ◌∷◌, ◌++◌, length, slice_index_or, Option, Some, None, is_none, Result, IfErr}
+use Rattle.std.specs.Prelude.{◌≡◌, ◌⊎◌, ℕ, ◌≤◌, true, if◌then◌else◌, [], ◌∷◌, ◌++◌, length, slice_index_or, Option, Some, None, is_none, Result, IfErr}
 use Rattle.vub_base.specs.Causes.{Rose}
 use Rattle.vub_base.specs.Told.{Told}
 use Rattle.vub_event.specs.declared.member.Member.{Member}
@@ -84,3 +84,32 @@ pub record OpensBy {T : Type 0} (before now : ℕ) (Sound StillSound : Type 0) (
 abbrev pub error_of : PartsError → VringEpollError → VringEpollError
 error_of parts_error.Fault fault = fault
 error_of parts_error.OutOfMemory fault = OutOfMemory
+
+-- What a worker that can't be opened leaves: what was made before stays.
+
+-- the table once the list is made, and the exit object, if there is one, is in it
+abbrev pub with_exit : HostTable → ℕ → Option ℕ → HostTable
+with_exit table queues None = create_list_after table
+with_exit table queues (Some exit) = joined_table (create_list_after table) (length table.lists) (listed exit queues)
+
+-- the same once the bell is made, which is in no list yet
+abbrev pub with_bell : HostTable → ℕ → Option ℕ → HostTable
+with_bell table queues exit = create_event_after (with_exit table queues exit) 0x800
+
+-- the table that each error leaves; want of memory stops any step
+abbrev pub Leaves : ℕ → Option ℕ → VringEpollError → HostTable → HostTable → Type 0
+Leaves queues exit EpollCreateFd old new = new ≡ old
+Leaves queues exit RegisterExitEvent old new = new ≡ create_list_after old
+Leaves queues exit NewEventConsumerNotifier old new = new ≡ with_exit old queues exit
+Leaves queues exit RegisterVringEnabledEvent old new = new ≡ with_bell old queues exit
+Leaves queues exit OutOfMemory old new =
+    (new ≡ old) ⊎ ((new ≡ create_list_after old) ⊎ ((new ≡ with_exit old queues exit) ⊎ (new ≡ with_bell old queues exit)))
+Leaves queues exit e old new = ⊥
+
+-- nothing else changes
+abbrev pub LeavesMade : {V : Type 0} → ℕ → Option ℕ → VringEpollError → Held V → Held V → Type 0
+LeavesMade queues exit e old new = Leaves queues exit e old.table new.table × (new ≡ record old { table = new.table })
+
+-- a step that is not made answers its own error or want of memory, and changes nothing
+abbrev pub Stops : {A : Type 0} → VringEpollError → A → A → VringEpollError → Type 0
+Stops fault old new e = ((e ≡ fault) ⊎ (e ≡ OutOfMemory)) × (new ≡ old)

@@ -1,9 +1,9 @@
 //! Opening a worker.
-ghost use Rattle.std.specs.Prelude.{◌≡◌, IfOk};
+ghost use Rattle.std.specs.Prelude.{◌≡◌, IfOk, IfErr};
 ghost use Rattle.std.specs.Option.{ForSome};
 ghost use Rattle.vub_base.specs.Told.{Told};
 ghost use Rattle.vub_model.specs.Opening.{listed};
-ghost use Rattle.vub_vring.specs.Worker.{exit_in, number_of, error_of, MakesList, MakesBell, Joins, JoinsExit, OpensFor, OpensBy};
+ghost use Rattle.vub_vring.specs.Worker.{exit_in, number_of, error_of, MakesList, MakesBell, Joins, JoinsExit, OpensFor, OpensBy, Stops, LeavesMade};
 
 use crate::ops::{HostOp, HostSaid};
 use crate::parts::Parts;
@@ -46,9 +46,10 @@ fn exit_of(constants: &Constants, worker: u32) -> Option<u32>
 }
 
 /// A new interest list.
-#[tactic(auto, using(crate::proofs::Working::told_list, crate::proofs::Working::opens_ok, crate::proofs::Working::opens_err))]
+#[tactic(auto, using(crate::proofs::Working::told_list, crate::proofs::Working::opens_ok, crate::proofs::Working::opens_err, crate::proofs::Working::stops_by))]
 fn new_list<P: Parts>(alloc: Global, parts: &mut P) -> Result<u32, VringEpollError>
     ensures told { IfOk result (λ n. Told (P.held parts.old) (P.held parts.new) (MakesList n)) }
+    ensures stops { IfErr result (Stops VringEpollError.EpollCreateFd (P.held parts.old) (P.held parts.new)) }
     ensures faults { OpensBy (P.fault_count parts.old) (P.fault_count parts.new) (P.never_fails parts.old) (P.never_fails parts.new) result }
     ensures loan { P.loan parts.new ≡ P.loan parts.old }
     ensures constants { P.told_constants parts.new ≡ P.told_constants parts.old }
@@ -60,9 +61,10 @@ fn new_list<P: Parts>(alloc: Global, parts: &mut P) -> Result<u32, VringEpollErr
 }
 
 /// A new bell.
-#[tactic(auto, using(crate::proofs::Working::told_bell, crate::proofs::Working::opens_ok, crate::proofs::Working::opens_err))]
+#[tactic(auto, using(crate::proofs::Working::told_bell, crate::proofs::Working::opens_ok, crate::proofs::Working::opens_err, crate::proofs::Working::stops_by))]
 fn new_bell<P: Parts>(alloc: Global, parts: &mut P) -> Result<u32, VringEpollError>
     ensures told { IfOk result (λ n. Told (P.held parts.old) (P.held parts.new) (MakesBell n)) }
+    ensures stops { IfErr result (Stops VringEpollError.NewEventConsumerNotifier (P.held parts.old) (P.held parts.new)) }
     ensures faults { OpensBy (P.fault_count parts.old) (P.fault_count parts.new) (P.never_fails parts.old) (P.never_fails parts.new) result }
     ensures loan { P.loan parts.new ≡ P.loan parts.old }
     ensures constants { P.told_constants parts.new ≡ P.told_constants parts.old }
@@ -74,7 +76,7 @@ fn new_bell<P: Parts>(alloc: Global, parts: &mut P) -> Result<u32, VringEpollErr
 }
 
 /// Adds the exit object of a worker to its list, if it has one.
-#[tactic(auto, using(crate::proofs::Working::told_join, crate::proofs::Working::opens_ok, crate::proofs::Working::opens_err, vub_ring::proofs::Settling::told_same))]
+#[tactic(auto, using(crate::proofs::Working::told_join, crate::proofs::Working::opens_ok, crate::proofs::Working::opens_err, vub_ring::proofs::Settling::told_same, crate::proofs::Working::stops_by))]
 fn join_exit<P: Parts>(
     alloc: Global,
     parts: &mut P,
@@ -83,6 +85,7 @@ fn join_exit<P: Parts>(
     token: u64,
 ) -> Result<(), VringEpollError>
     ensures told { IfOk result (λ done. Told (P.held parts.old) (P.held parts.new) (JoinsExit list exit token)) }
+    ensures stops { IfErr result (Stops VringEpollError.RegisterExitEvent (P.held parts.old) (P.held parts.new)) }
     ensures faults { OpensBy (P.fault_count parts.old) (P.fault_count parts.new) (P.never_fails parts.old) (P.never_fails parts.new) result }
     ensures loan { P.loan parts.new ≡ P.loan parts.old }
     ensures constants { P.told_constants parts.new ≡ P.told_constants parts.old }
@@ -97,7 +100,7 @@ fn join_exit<P: Parts>(
 }
 
 /// Adds the bell of a worker to its list.
-#[tactic(auto, using(crate::proofs::Working::told_join, crate::proofs::Working::opens_ok, crate::proofs::Working::opens_err))]
+#[tactic(auto, using(crate::proofs::Working::told_join, crate::proofs::Working::opens_ok, crate::proofs::Working::opens_err, crate::proofs::Working::stops_by))]
 fn join_bell<P: Parts>(
     alloc: Global,
     parts: &mut P,
@@ -106,6 +109,7 @@ fn join_bell<P: Parts>(
     token: u64,
 ) -> Result<(), VringEpollError>
     ensures told { IfOk result (λ done. Told (P.held parts.old) (P.held parts.new) (Joins list (listed bell token))) }
+    ensures stops { IfErr result (Stops VringEpollError.RegisterVringEnabledEvent (P.held parts.old) (P.held parts.new)) }
     ensures faults { OpensBy (P.fault_count parts.old) (P.fault_count parts.new) (P.never_fails parts.old) (P.never_fails parts.new) result }
     ensures loan { P.loan parts.new ≡ P.loan parts.old }
     ensures constants { P.told_constants parts.new ≡ P.told_constants parts.old }
@@ -121,8 +125,8 @@ fn join_bell<P: Parts>(
 ///
 /// # Errors
 /// `EpollCreateFd` for the list, `RegisterExitEvent` for the exit object, `NewEventConsumerNotifier` for the bell and
-/// `RegisterVringEnabledEvent` for adding it, each only where the host's count of faults rose; want of memory. What was
-/// made before stays in the host.
+/// `RegisterVringEnabledEvent` for adding it, each only where the host's count of faults rose; want of memory at any step.
+/// What was made before stays in the host, and nothing else changes.
 pub fn open_worker<P: Parts>(
     alloc: Global,
     parts: &mut P,
@@ -130,6 +134,7 @@ pub fn open_worker<P: Parts>(
 ) -> Result<Opened, VringEpollError>
     ensures worker { IfOk result (λ opened. opened.worker ≡ worker) }
     ensures told { IfOk result (λ opened. ForSome (P.told_constants parts.old) (λ constants. OpensFor constants worker opened (P.held parts.old) (P.held parts.new))) }
+    ensures stopped { IfErr result (λ e. ForSome (P.told_constants parts.old) (λ constants. Told (P.held parts.old) (P.held parts.new) (LeavesMade constants.queues (exit_in constants worker) e))) }
     ensures faults { OpensBy (P.fault_count parts.old) (P.fault_count parts.new) (P.never_fails parts.old) (P.never_fails parts.new) result }
     ensures loan { P.loan parts.new ≡ P.loan parts.old }
     ensures constants { P.told_constants parts.new ≡ P.told_constants parts.old }
