@@ -298,6 +298,7 @@ pub fn play_put<R: RingState, L: DirtyLog, H: Host>(
     ensures ring { OnErr result (R.ring ring.new ≡ R.ring ring.old) }
     ensures memory { OnErr result (memory.new ≡ memory.old) }
     ensures host { OnErr result (host.new ≡ host.old) }
+    ensures only { ¬ (IsErrOf result PartsError.Fault) }
     ensures faults { CountsFaults (H.fault_count host.old) (H.fault_count host.new) (H.never_fails host.old) (H.never_fails host.new) result }
 {
     if ring.reserve().is_err() {

@@ -1,5 +1,7 @@
 -- Each call of a host says and leaves, as a call of the parts, what the call of its name does.
-use Rattle.std.proofs.Common.{◌≡◌, ℕ, Bool, Option, Some, Result, Ok, Err, IsErrOf, IfOk, refl}
+use Rattle.std.proofs.Common.{◌≡◌, ◌==◌, ℕ, Bool, false, IsTrue, List, Option, Some, Result, Ok, Err, IsErrOf, IfOk, refl, subst}
+use Rattle.std.specs.List.{list_any}
+use Rattle.vub_event.specs.Errors.{RefusesBy, error_number}
 use Rattle.vub_base.specs.Told.{Told}
 use Rattle.vub_event.specs.declared.error.HostError.{HostError}
 use Rattle.vub_event.specs.declared.error.HostError.TheVariants.{WouldBlock, EINVAL, EEXIST, ENOENT, EBADF, ENOBUFS, Failed, Held, OutOfMemory}
@@ -100,6 +102,19 @@ fault-is wrap (Err ENOBUFS) h = absurd (cc)
 fault-is wrap (Err Held) h = absurd (cc)
 fault-is wrap (Err OutOfMemory) h = absurd (cc)
 fault-is wrap (Err Failed) h = refl
+
+-- want of memory is said only where the host may refuse for it
+pub no_lack : {T : Type 0} (wrap : T → HostSaid) (r : Result T HostError) (errors : List HostError) → RefusesBy r errors → list_any (λ x. error_number x == error_number OutOfMemory) errors ≡ false → IsErrOf (said_by wrap r) parts_error.OutOfMemory → ⊥
+no_lack wrap (Ok x) errors by none h = absurd (cc)
+no_lack wrap (Err WouldBlock) errors by none h = absurd (cc)
+no_lack wrap (Err EINVAL) errors by none h = absurd (cc)
+no_lack wrap (Err EEXIST) errors by none h = absurd (cc)
+no_lack wrap (Err ENOENT) errors by none h = absurd (cc)
+no_lack wrap (Err EBADF) errors by none h = absurd (cc)
+no_lack wrap (Err ENOBUFS) errors by none h = absurd (cc)
+no_lack wrap (Err Held) errors by none h = absurd (cc)
+no_lack wrap (Err Failed) errors by none h = absurd (cc)
+no_lack wrap (Err OutOfMemory) errors by none h = let lacks : IsTrue false = subst IsTrue none by in absurd (cc)
 
 -- the count of faults is that of the call
 pub counts_said : {T : Type 0} (wrap : T → HostSaid) (before now : ℕ) (Sound Still : Type 0) (r : Result T HostError) → CountsFaults before now Sound Still r → CountsPartsFaults before now Sound Still (said_by wrap r)

@@ -111,6 +111,14 @@ HostTableCall (host.Claim object queue) (said.Refused e) old new = ClaimCall {T 
 HostTableCall (host.Release object) said.Done old new = new ≡ release_after old object
 HostTableCall o s old new = ⊥
 
+-- the calls of a host that may want memory: those that make an object or a list, and those that add a member
+abbrev pub takes_memory : HostOp → Bool
+takes_memory (host.CreateEvent flags) = true
+takes_memory host.CreateList = true
+takes_memory (host.Add list object set token) = true
+takes_memory (host.Listen list object token) = true
+takes_memory o = false
+
 -- neither a fault of the host nor want of memory is said as a refusal
 abbrev pub IsSaid : HostSaid → Type 0
 IsSaid (said.Refused host_error.Failed) = ⊥

@@ -1,11 +1,11 @@
-ghost use Rattle.std.specs.Prelude.{◌≡◌, ◌≤◌, ◌⊎◌, ℕ, Option, length, sum_by, IfOk};
+ghost use Rattle.std.specs.Prelude.{◌≡◌, ◌≤◌, ◌⊎◌, ℕ, Option, length, sum_by, IfOk, IsErrOf, IsTrue};
 ghost use Rattle.vub_base.specs.Causes.{Rose};
 ghost use Rattle.std.specs.Option.{ForSome};
 ghost use Rattle.vub_model.specs.declared.constants.Constants.{Constants};
 ghost use Rattle.vub_model.specs.Held.{Held};
 ghost use Rattle.vub_model.specs.Service.{meaning};
 ghost use Rattle.vub_ring.specs.Play.{HasRoom, inserts};
-ghost use Rattle.vub_vring.specs.Calls.{Called, RingCall, TableRingCall, KickCall, PutCall, PutUncalled, PendCall, ServiceCall, HostCall, IsSaid};
+ghost use Rattle.vub_vring.specs.Calls.{Called, RingCall, TableRingCall, KickCall, PutCall, PutUncalled, PendCall, ServiceCall, HostCall, IsSaid, takes_memory};
 ghost use Rattle.vub_ring.specs.Faults.{CountsFaults};
 
 use crate::ops::{HostOp, HostSaid};
@@ -49,6 +49,7 @@ pub trait Parts {
     /// Want of memory.
     fn ring(&mut self, alloc: Global, queue: u32, op: RingOp) -> Result<RingSaid, PartsError>
         ensures row { Called result (held self.old) (held self.new) (RingCall queue op) }
+        ensures only { ¬ (IsErrOf result PartsError.Fault) }
         ensures faults { CountsFaults (fault_count self.old) (fault_count self.new) (never_fails self.old) (never_fails self.new) result }
         ensures loan { loan self.new ≡ loan self.old }
         ensures constants { told_constants self.new ≡ told_constants self.old };
@@ -65,6 +66,7 @@ pub trait Parts {
     ) -> Result<TableRingSaid, PartsError>
         ensures row { Called result (held self.old) (held self.new) (TableRingCall queue op) }
         ensures room { IfOk result HasRoom }
+        ensures only { ¬ (IsErrOf result PartsError.Fault) }
         ensures faults { CountsFaults (fault_count self.old) (fault_count self.new) (never_fails self.old) (never_fails self.new) result }
         ensures loan { loan self.new ≡ loan self.old }
         ensures constants { told_constants self.new ≡ told_constants self.old };
@@ -75,6 +77,7 @@ pub trait Parts {
     /// A fault of the host.
     fn ring_host(&mut self, alloc: Global, queue: u32, object: u32) -> Result<KickSaid, PartsError>
         ensures row { Called result (held self.old) (held self.new) (KickCall queue object) }
+        ensures only { ¬ (IsErrOf result PartsError.OutOfMemory) }
         ensures faults { CountsFaults (fault_count self.old) (fault_count self.new) (never_fails self.old) (never_fails self.new) result }
         ensures loan { loan self.new ≡ loan self.old }
         ensures constants { told_constants self.new ≡ told_constants self.old };
@@ -96,6 +99,7 @@ pub trait Parts {
         requires room { entry.now.chain.room ≡ sum_by (λ s. s.len) entry.now.chain.segments }
         ensures row { Called result (held self.old) (held self.new) (λ s old new. PutCall entry.now reply.now s old new ⊎ (Rose (fault_count self.old) (fault_count self.new) × PutUncalled entry.now reply.now s old new)) }
         ensures sound { never_fails self.old → Called result (held self.old) (held self.new) (PutCall entry.now reply.now) }
+        ensures only { ¬ (IsErrOf result PartsError.Fault) }
         ensures faults { CountsFaults (fault_count self.old) (fault_count self.new) (never_fails self.old) (never_fails self.new) result }
         ensures loan { loan self.new ≡ loan self.old }
         ensures constants { told_constants self.new ≡ told_constants self.old };
@@ -103,10 +107,11 @@ pub trait Parts {
     /// Makes this call of the host.
     ///
     /// # Errors
-    /// A fault of the host; want of memory for the calls that may answer it.
+    /// A fault of the host; want of memory only for `CreateEvent`, `CreateList`, `Add` and `Listen`.
     fn host(&mut self, alloc: Global, op: HostOp) -> Result<HostSaid, PartsError>
         ensures row { Called result (held self.old) (held self.new) (HostCall op) }
         ensures said { IfOk result IsSaid }
+        ensures memory { IsErrOf result PartsError.OutOfMemory → IsTrue (takes_memory op) }
         ensures faults { CountsFaults (fault_count self.old) (fault_count self.new) (never_fails self.old) (never_fails self.new) result }
         ensures loan { loan self.new ≡ loan self.old }
         ensures constants { told_constants self.new ≡ told_constants self.old };
@@ -118,6 +123,7 @@ pub trait Parts {
     fn pend(&mut self, alloc: Global, worker: u32, op: PendOp) -> Result<PendSaid, PartsError>
         ensures row { Called result (held self.old) (held self.new) (PendCall worker op) }
         ensures memory { IsErrOf result PartsError.OutOfMemory → IsTrue (inserts op) }
+        ensures only { ¬ (IsErrOf result PartsError.Fault) }
         ensures faults { CountsFaults (fault_count self.old) (fault_count self.new) (never_fails self.old) (never_fails self.new) result }
         ensures loan { loan self.new ≡ loan self.old }
         ensures constants { told_constants self.new ≡ told_constants self.old };
@@ -129,6 +135,7 @@ pub trait Parts {
     fn service(&mut self, alloc: Global, entry: &Entry) -> Result<Bytes, PartsError>
         ensures row { Called result (held self.old) (held self.new) (ServiceCall (meaning Self.Service.reply_of Self.Service.after) entry.now) }
         ensures fits { IfOk result (λ reply. length reply ≤ entry.now.chain.room) }
+        ensures only { ¬ (IsErrOf result PartsError.Fault) }
         ensures faults { CountsFaults (fault_count self.old) (fault_count self.new) (never_fails self.old) (never_fails self.new) result }
         ensures loan { loan self.new ≡ loan self.old }
         ensures constants { told_constants self.new ≡ told_constants self.old };

@@ -3,7 +3,7 @@ ghost use Rattle.std.specs.Prelude.{◌≡◌, ◌≤◌, [], Some, Ok, IfOk, On
 ghost use Rattle.vub_mem.specs.Marks.{MarksAll, page_marks};
 ghost use Rattle.vub_model.specs.RingRecord.{closed_ring, ring_said, ring_after};
 ghost use Rattle.vub_ring.specs.Play.{HasRoom};
-ghost use Rattle.vub_vring.specs.Calls.{HostTableCall, IsSaid};
+ghost use Rattle.vub_vring.specs.Calls.{HostTableCall, IsSaid, takes_memory};
 ghost use Rattle.vub_ring.specs.Faults.{CountsFaults};
 ghost use Rattle.vub_ring.specs.Play.{OnTable, KickTable, kick_said, put_found, table_marks, use_marks, PutTable, table_put, PendPlays, inserts};
 ghost use Rattle.vub_vring.specs.Store.{ring_in, left_by, TakesAt, PutsAt, PendsAt};
@@ -122,6 +122,7 @@ pub(crate) fn put_at<L: DirtyLog, H: Host>(
     ensures memory { OnErr result (memory.new ≡ memory.old) }
     ensures guest { OnErr result (memory.new.guest ≡ memory.old.guest) }
     ensures host { OnErr result (host.new ≡ host.old) }
+    ensures only { ¬ (IsErrOf result PartsError.Fault) }
     ensures faults { CountsFaults (H.fault_count host.old) (H.fault_count host.new) (H.never_fails host.old) (H.never_fails host.new) result }
 {
     match rings.get_mut(entry.queue as usize) {
@@ -161,10 +162,11 @@ fn missing_said(alloc: Global, op: PendOp) -> PendSaid
 }
 
 /// Makes this call of a host in memory. Of several ready members it gives the one with the least object number.
-#[tactic(auto, using(crate::proofs::Saying::first_ready_says, crate::proofs::Saying::counts_said, crate::proofs::Saying::said_is))]
+#[tactic(auto, using(crate::proofs::Saying::first_ready_says, crate::proofs::Saying::counts_said, crate::proofs::Saying::said_is, crate::proofs::Saying::no_lack))]
 pub(crate) fn host_at(alloc: Global, host: &mut MemHost, op: HostOp) -> Result<HostSaid, PartsError>
     ensures table { OnTable result (Some host.old.table) (Some host.new.table) (HostTableCall op) }
     ensures said { IfOk result IsSaid }
+    ensures memory { IsErrOf result PartsError.OutOfMemory → IsTrue (takes_memory op) }
     ensures faults { CountsFaults host.old.plan.faults host.new.plan.faults (host.old.plan.calls.items ≡ []) (host.new.plan.calls.items ≡ []) result }
 {
     match op {
