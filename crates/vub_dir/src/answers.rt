@@ -3,7 +3,7 @@ ghost use Rattle.std.specs.Prelude.{◌≡◌, ◌+◌, ◌≤◌, ◌<◌, ◌=
 ghost use Rattle.std.specs.List.{position};
 ghost use Rattle.std.specs.Option.{option_copied};
 ghost use Rattle.vub_dir.specs.Attributes.{attribute_fields};
-ghost use Rattle.vub_dir.specs.Directory.{init_fields, init_of, entry_at, entry_of, lookup_of, attributes_at, getattr_of, open_of, read_of, size_refusal, write_refusal, write_of, readdir_of, answer_of, succeeds, data_in, offset_in, size_in};
+ghost use Rattle.vub_dir.specs.Directory.{init_fields, init_of, entry_at, entry_of, lookup_of, attributes_at, getattr_of, open_of, read_of, size_refusal, write_refusal, write_of, readdir_of, answer_of, succeeds, data_in, offset_in};
 ghost use Rattle.vub_dir.specs.Layout.{fields_bytes};
 ghost use Rattle.vub_dir.specs.Replies.{fitted};
 ghost use Rattle.vub_dir.specs.Requests.{name_in};

@@ -1,4 +1,4 @@
-ghost use Rattle.std.specs.Prelude.{◌≡◌, ◌+◌, ◌<◌, ◌++◌, ◌∷◌, ◌⊎◌, [], false, Some, None, Ok, ℕ, List, length, is_ok, map, take, slice_get, IfNone, IfOk, IfErr, OnOk};
+ghost use Rattle.std.specs.Prelude.{◌≡◌, ◌+◌, ◌<◌, ◌++◌, ◌∷◌, ◌⊎◌, [], false, Some, None, Ok, ℕ, List, length, is_ok, map, take, slice_get, IfOk, IfErr, OnOk};
 ghost use Rattle.vub_dir.specs.Building.{IsListed, are_name_bytes, content_of, depth_at, depth_of, fault_of, first_fault, is_dots, is_name, is_name_length, is_past, new_node, tree_of, with_entry};
 ghost use Rattle.vub_dir.specs.Tree.{child_of, name_in_node, names_of, put_child};
 ghost use Rattle.vub_dir.specs.Names.{Entry};
