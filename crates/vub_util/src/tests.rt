@@ -84,7 +84,9 @@ fn ioctl_numbers_are_those_of_the_kernel(rt: HostRuntime) {
     assert_eq!(rt; ioctl::ioctl_ior_nr(0x54, 0xcf, 4), 0x8004_54cf);
     assert_eq!(rt; ioctl::ioctl_ior_nr(0x45, 0x20 + 2, 128), 0x8080_4522);
     assert_eq!(rt; ioctl::ioctl_io_nr(0xae, 1), 0xae01);
+    assert_eq!(rt; ioctl::ioctl_io_nr(0xaf, 1), 0xaf01);
     assert_eq!(rt; ioctl::ioctl_io_nr(0x45, 1 + 3 + 5), 0x4509);
+    assert_eq!(rt; ioctl::ioctl_iowr_nr(0xae, 2, 4), 0xc004_ae02);
     assert_eq!(rt; ioctl::ioctl_iowr_nr(0xaf, 0x12, 4), 0xc004_af12);
     assert_eq!(rt; ioctl::ioctl_iow_nr(0x54, 0xd9, 4), 0x4004_54d9);
     assert_eq!(rt; ioctl::ioctl_expr(ioctl::_IOC_NONE, 0xae, 1, 0), 0xae01);
@@ -220,14 +222,14 @@ fn parts_must_fit_each_other(rt: HostRuntime) -> Result<(), Fail> {
     Ok(())
 }
 
-// where this process puts its temporary files and directories
-fn own_prefix(rt: &HostRuntime) -> Result<String, AllocError> {
-    format!(in rt.alloc(); "/tmp/vub_util_{}_", process::id(rt.process()))
+// where a test of this process puts its temporary files and directories
+fn own_prefix(rt: &HostRuntime, test: &str) -> Result<String, AllocError> {
+    format!(in rt.alloc(); "/tmp/vub_util_{}_{test}_", process::id(rt.process()))
 }
 
 #[test]
 fn a_file_name_is_taken_once(rt: HostRuntime) -> Result<(), Fail> {
-    let prefix = own_prefix(&rt)?;
+    let prefix = own_prefix(&rt, "file")?;
     let first = TempFile::new_with_prefix(&rt, rt.alloc(), prefix.as_str(), "aaaaaa").expect(
         &rt, "a file",
     );
@@ -242,21 +244,22 @@ fn a_file_name_is_taken_once(rt: HostRuntime) -> Result<(), Fail> {
 
 #[test]
 fn a_directory_name_is_taken_once(rt: HostRuntime) -> Result<(), Fail> {
-    let prefix = own_prefix(&rt)?;
-    let first = TempDir::new_with_prefix(&rt, rt.alloc(), prefix.as_str(), "dir").expect(
+    let prefix = own_prefix(&rt, "directory")?;
+    let first = TempDir::new_with_prefix(&rt, rt.alloc(), prefix.as_str(), "aaaaaa").expect(
         &rt,
         "a directory",
     );
     let within = String::from_str(rt.alloc(), first.as_path()).expect(&rt, "memory");
-    match TempDir::new_with_prefix(&rt, rt.alloc(), prefix.as_str(), "dir") {
+    match TempDir::new_with_prefix(&rt, rt.alloc(), prefix.as_str(), "aaaaaa") {
         Ok(second) => second
             .close(&rt, rt.alloc())
             .expect(&rt, "the second directory"),
         Err(refused) => assert_eq!(rt; refused, TempError::Taken),
     }
+    assert!(rt; fs::metadata(&rt, within.as_str()).is_ok_and(|m| m.is_dir()));
     // it goes with all that is inside
     let file = TempFile::new_in(&rt, rt.alloc(), within.as_str(), "b").expect(&rt, "a file inside");
-    let inner = TempDir::new(&rt, rt.alloc(), within.as_str(), "c").expect(
+    let mut inner = TempDir::new(&rt, rt.alloc(), within.as_str(), "c").expect(
         &rt,
         "a directory inside",
     );
@@ -268,11 +271,15 @@ fn a_directory_name_is_taken_once(rt: HostRuntime) -> Result<(), Fail> {
         &rt,
         "a second directory inside",
     );
+    assert_eq!(rt; inner.remove(&rt, rt.alloc()), Ok(()));
+    assert_eq!(rt; inner.remove(&rt, rt.alloc()), Err(TempError::Os(2)));
+    assert!(rt; inner.as_path().ends_with("/c"));
     assert!(rt; second.as_path().ends_with("/d"));
     assert!(rt; other.as_path().ends_with("/e"));
     first
         .close(&rt, rt.alloc())
         .expect(&rt, "the directory's name");
+    assert!(rt; fs::metadata(&rt, within.as_str()).is_err());
     assert_eq!(rt; file.close(&rt), Err(TempError::Os(2)));
     assert_eq!(rt; inner.close(&rt, rt.alloc()), Err(TempError::Os(2)));
     assert_eq!(rt; second.close(&rt), Err(TempError::Os(2)));
@@ -282,8 +289,8 @@ fn a_directory_name_is_taken_once(rt: HostRuntime) -> Result<(), Fail> {
 
 #[test]
 fn a_file_outlives_its_name(rt: HostRuntime) -> Result<(), Fail> {
-    let prefix = own_prefix(&rt)?;
-    let mut named = TempFile::new_with_prefix(&rt, rt.alloc(), prefix.as_str(), "named").expect(
+    let prefix = own_prefix(&rt, "named")?;
+    let mut named = TempFile::new_with_prefix(&rt, rt.alloc(), prefix.as_str(), "aaaaaa").expect(
         &rt, "a file",
     );
     named.remove(&rt).expect(&rt, "the file's name");
