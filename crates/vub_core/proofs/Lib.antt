@@ -3,6 +3,8 @@ pub mod Claims
 pub mod ContentsFrom
 pub mod Counted
 pub mod Flags
+pub mod HostCauses
+pub mod HostTakes
 pub mod Kept
 pub mod Longer
 pub mod MaskBits

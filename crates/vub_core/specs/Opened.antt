@@ -1,8 +1,11 @@
 -- What the opening of a machine builds on.
-use Rattle.std.specs.Prelude.{◌≡◌, ◌≤◌, ℕ, true}
+use Rattle.std.specs.Prelude.{◌≡◌, ◌+◌, ◌<◌, ◌≤◌, ℕ, true, List, [], ◌∷◌, length, slice_index_or, Some, None}
 use Rattle.std.specs.Int.{is_power_of_two}
+use Rattle.vub_event.specs.HostCalls.{claim_refusal, add_refusal, signal_refusal}
+use Rattle.vub_model.specs.declared.constants.Constants.{Constants}
 use Rattle.vub_model.specs.declared.setup.GivenRing.{GivenRing}
 use Rattle.vub_model.specs.Held.{Held}
+use Rattle.vub_model.specs.Opening.{listed, claimed, registered, wiring_of}
 use Rattle.vub_model.specs.ValidSetup.{is_aligned}
 use Rattle.vub_vring.specs.declared.store.Store.{Store}
 use Rattle.vub_vring.specs.Store.{held_of}
@@ -17,3 +20,19 @@ pub record IsFit (max : ℕ) (ring : GivenRing) : Type 0 where
 -- what a store holds, beside a service of no state
 abbrev pub unserved : Store (Unit {0}) → Held (Unit {0})
 unserved s = held_of s (tt {0})
+
+-- each exit object is one of so many objects
+abbrev pub ExitsAreThere : Constants → ℕ → Type 0
+ExitsAreThere constants count = (worker exit : ℕ) → slice_index_or constants.exits worker None ≡ Some exit → exit < count
+
+-- The host refuses none of the calls by which a ring is registered, but for want of memory: the claim of its kick, and then
+-- that the kick joins a worker's list, and a signal of a worker's bell.
+pub record IsTaken {V : Type 0} (constants : Constants) (count : ℕ) (h : Held V) (r : GivenRing) : Type 0 where
+  pub claim : (kick : ℕ) → r.kick ≡ Some kick → claim_refusal h.table kick r.queue ≡ None
+  pub add : (kick worker number : ℕ) → r.kick ≡ Some kick → worker < length constants.masks → add_refusal (claimed h kick r.queue).table worker (listed kick number) ≡ None
+  pub signal : (kick worker : ℕ) → r.kick ≡ Some kick → worker < length constants.masks → signal_refusal (claimed h kick r.queue).table (count + worker) 1 ≡ None
+
+-- and of these rings, one after the other
+abbrev pub AreTaken : {V : Type 0} → Constants → ℕ → Held V → List GivenRing → Type 0
+AreTaken constants count h [] = Unit {0}
+AreTaken constants count h (r ∷ rs) = IsTaken constants count h r × AreTaken constants count (registered (wiring_of constants count) h r) rs

@@ -38,9 +38,7 @@ fn new_store(
     ensures sets { IfOk result (λ s. length s.pending.items ≡ length constants.now.masks) }
     ensures sound { IfOk result (λ s. s.host.plan.calls.items ≡ []) }
 {
-    let Ok(host) = open_host(alloc, setup.objects.as_slice(), constants) else {
-        return Err(OutOfMemory);
-    };
+    let host = open_host(alloc, setup.objects.as_slice(), constants)?;
     let rings = open_rings(alloc, constants, setup.rings.as_slice())?;
     let pending = open_pending(alloc, constants.masks.as_slice())?;
     Ok(Store {

@@ -1,34 +1,46 @@
 //! The registration of the given rings.
-ghost use Rattle.std.specs.Prelude.{◌≡◌, ◌+◌, ◌<◌, ◌^◌, Some, length, fold, slice_set, slice_index_or, [], OnOk};
+ghost use Rattle.std.specs.Prelude.{◌≡◌, ◌+◌, ◌<◌, ◌^◌, Some, None, length, fold, slice_set, slice_index_or, [], OnOk};
 ghost use Rattle.vub_event.specs.HostTable.{event_at, with_event};
+ghost use Rattle.vub_event.specs.HostCalls.{claim_refusal, add_refusal, signal_refusal};
 ghost use Rattle.vub_model.specs.Held.{raised_option, with_number};
-ghost use Rattle.vub_model.specs.Opening.{wiring_of, claimed_event, claimed, placed, registered};
-ghost use Rattle.vub_core.specs.Opened.{unserved};
+ghost use Rattle.vub_model.specs.Opening.{wiring_of, claimed_event, listed, placed, registered};
+ghost use Rattle.vub_core.specs.Hosts.{NeverFails};
+ghost use Rattle.vub_core.specs.Opened.{unserved, IsTaken, AreTaken};
 
 use crate::new_host::add_member;
 use crate::places::place_of;
 use std::alloc::Global;
 use vub_base::OutOfMemory;
-use vub_event::{Host, HostError, MemHost};
+use vub_event::{Host, MemHost};
 use vub_model::{Constants, GivenRing, Place};
 use vub_vring::{Pending, Store};
 
 /// The kick of a queue is claimed.
 #[tactic(auto, using(crate::proofs::Claims::claim_claims))]
-fn claim(host: &mut MemHost, kick: u32, queue: u32) -> Result<(), HostError>
-    ensures table { OnOk result (host.new.table ≡ with_event host.old.table kick (claimed_event queue (event_at host.old.table kick))) }
-    ensures still { host.old.plan.calls.items ≡ [] → host.new.plan.calls.items ≡ [] }
+fn claim(host: &mut MemHost, kick: u32, queue: u32)
+    requires sound { NeverFails host.old }
+    requires taken { claim_refusal host.old.table kick queue ≡ None }
+    ensures table { host.new.table ≡ with_event host.old.table kick (claimed_event queue (event_at host.old.table kick)) }
+    ensures sound { NeverFails host.new }
 {
-    host.claim(kick, queue)
+    match host.claim(kick, queue) {
+        Ok(()) => {}
+        Err(_) => unreachable!(),
+    }
 }
 
 /// Adds 1 to the count of a bell.
 #[tactic(auto, using(crate::proofs::Claims::signal_raises))]
-fn ring_bell(host: &mut MemHost, bell: u32) -> Result<(), HostError>
-    ensures table { OnOk result (host.new.table ≡ with_event host.old.table bell (raised_option (event_at host.old.table bell))) }
-    ensures still { host.old.plan.calls.items ≡ [] → host.new.plan.calls.items ≡ [] }
+fn ring_bell(host: &mut MemHost, bell: u32)
+    requires sound { NeverFails host.old }
+    requires taken { signal_refusal host.old.table bell 1 ≡ None }
+    ensures table { host.new.table ≡ with_event host.old.table bell (raised_option (event_at host.old.table bell)) }
+    ensures sound { NeverFails host.new }
 {
-    host.signal(bell, 1)
+    match host.signal(bell, 1) {
+        Ok(()) => {}
+        Err(_) => unreachable!(),
+    }
 }
 
 /// Puts a number into the pending set of a worker.
@@ -51,23 +63,22 @@ fn place_kick(
     requires numbers { count + length constants.now.masks < 2 ^ 32 }
     requires sets { length store.old.pending.items ≡ length constants.now.masks }
     requires worker { place.worker < length constants.now.masks }
+    requires sound { NeverFails store.old.host }
+    requires add { add_refusal store.old.host.table place.worker (listed kick place.number) ≡ None }
+    requires bell { signal_refusal store.old.host.table (count + place.worker) 1 ≡ None }
     ensures held { OnOk result (unserved store.new ≡ placed (wiring_of constants.now count) (unserved store.old) kick (Some place)) }
     ensures sets { OnOk result (length store.new.pending.items ≡ length constants.now.masks) }
-    ensures still { store.old.host.plan.calls.items ≡ [] → store.new.host.plan.calls.items ≡ [] }
+    ensures sound { NeverFails store.new.host }
 {
-    let Ok(()) = add_member(
+    add_member(
         alloc,
         &mut store.host,
         place.worker,
         kick,
         place.number as u64,
-    ) else {
-        return Err(OutOfMemory);
-    };
+    )?;
     insert(&mut store.pending, place.worker, place.number)?;
-    let Ok(()) = ring_bell(&mut store.host, count + place.worker) else {
-        return Err(OutOfMemory);
-    };
+    ring_bell(&mut store.host, count + place.worker);
     Ok(())
 }
 
@@ -82,16 +93,16 @@ fn register(
 ) -> Result<(), OutOfMemory>
     requires numbers { count + length constants.now.masks < 2 ^ 32 }
     requires sets { length store.old.pending.items ≡ length constants.now.masks }
+    requires sound { NeverFails store.old.host }
+    requires taken { IsTaken constants.now count (unserved store.old) ring.now }
     ensures held { OnOk result (unserved store.new ≡ registered (wiring_of constants.now count) (unserved store.old) ring.now) }
     ensures sets { OnOk result (length store.new.pending.items ≡ length constants.now.masks) }
-    ensures still { store.old.host.plan.calls.items ≡ [] → store.new.host.plan.calls.items ≡ [] }
+    ensures sound { NeverFails store.new.host }
 {
     let Some(kick) = ring.kick else {
         return Ok(());
     };
-    let Ok(()) = claim(&mut store.host, kick, ring.queue) else {
-        return Err(OutOfMemory);
-    };
+    claim(&mut store.host, kick, ring.queue);
     if !ring.ready || !ring.enabled {
         return Ok(());
     }
@@ -117,8 +128,10 @@ pub(crate) fn register_rings(
 ) -> Result<(), OutOfMemory>
     requires numbers { count + length constants.now.masks < 2 ^ 32 }
     requires sets { length store.old.pending.items ≡ length constants.now.masks }
+    requires sound { NeverFails store.old.host }
+    requires taken { AreTaken constants.now count (unserved store.old) given.now }
     ensures held { OnOk result (unserved store.new ≡ fold (λ h r. registered (wiring_of constants.now count) h r) (unserved store.old) given.now) }
-    ensures still { store.old.host.plan.calls.items ≡ [] → store.new.host.plan.calls.items ≡ [] }
+    ensures sound { NeverFails store.new.host }
 {
     for ring in given {
         register(alloc, store, constants, count, ring)?;

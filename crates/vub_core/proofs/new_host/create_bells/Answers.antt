@@ -8,5 +8,5 @@ unfolding create_event_after
 loop-mask-preserved c = record {
   objects = constant_next (Some (new_event 0)) _ _ _ _ _ c.loop-mask-test.true c.loop-mask.invariant.objects (ap (λ t. t.objects) c.in_ok-create_event.ensures.table);
   lists = ap (λ t. t.lists) c.in_ok-create_event.ensures.table ∙ c.loop-mask.invariant.lists;
-  still = λ none. c.create_event.ensures.still (c.loop-mask.invariant.still none);
+  sound = c.create_event.ensures.sound;
 }

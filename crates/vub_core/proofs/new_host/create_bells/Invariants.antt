@@ -1,5 +1,6 @@
 use Rattle.std.proofs.Common.{◌≡◌, [], ◌++◌, map, take, Some}
 use Rattle.vub_event.specs.HostCalls.{new_event}
+use Rattle.vub_core.specs.Hosts.{NeverFails}
 use Rattle.vub_core.proofs.new_host.create_bells.Given as goal
 
 abbrev pub invariant-loop-mask : goal.invariant-loop-mask
@@ -7,5 +8,5 @@ invariant-loop-mask l =
     record {
       objects : l.host.table.objects ≡ l.initial.host.table.objects ++ map (λ mask. Some (new_event 0)) (take l._mask-index l.masks);
       lists : l.host.table.lists ≡ l.initial.host.table.lists;
-      still : l.initial.host.plan.calls.items ≡ [] → l.host.plan.calls.items ≡ [];
+      sound : NeverFails l.host;
     }

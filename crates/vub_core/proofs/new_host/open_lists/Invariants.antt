@@ -1,6 +1,7 @@
 use Rattle.std.proofs.Common.{◌≡◌, [], map}
 use Rattle.std.specs.List.{range_with_len}
 use Rattle.vub_model.specs.Opening.{opened_worker, opening_members}
+use Rattle.vub_core.specs.Hosts.{NeverFails}
 use Rattle.vub_core.proofs.new_host.open_lists.Given as goal
 
 abbrev pub invariant-loop-worker : goal.invariant-loop-worker
@@ -8,5 +9,5 @@ invariant-loop-worker l =
     record {
       lists : l.host.table.lists ≡ map (λ w. opening_members l.constants.queues w) (map (λ w. opened_worker l.count l.constants.exits w) (range_with_len 0 l.worker));
       objects : l.host.table.objects ≡ l.initial.host.table.objects;
-      still : l.initial.host.plan.calls.items ≡ [] → l.host.plan.calls.items ≡ [];
+      sound : NeverFails l.host;
     }

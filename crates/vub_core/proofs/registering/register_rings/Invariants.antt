@@ -1,6 +1,7 @@
-use Rattle.std.proofs.Common.{◌≡◌, [], fold, length, take}
+use Rattle.std.proofs.Common.{◌≡◌, [], fold, length, take, drop}
 use Rattle.vub_model.specs.Opening.{wiring_of, registered}
-use Rattle.vub_core.specs.Opened.{unserved}
+use Rattle.vub_core.specs.Hosts.{NeverFails}
+use Rattle.vub_core.specs.Opened.{unserved, AreTaken}
 use Rattle.vub_core.proofs.registering.register_rings.Given as goal
 
 abbrev pub invariant-loop-ring : goal.invariant-loop-ring
@@ -8,5 +9,6 @@ invariant-loop-ring l =
     record {
       held : unserved l.store ≡ fold (λ h r. registered (wiring_of l.constants l.count) h r) (unserved l.initial.store) (take l.ring-index l.given);
       sets : length l.store.pending.items ≡ length l.constants.masks;
-      still : l.initial.store.host.plan.calls.items ≡ [] → l.store.host.plan.calls.items ≡ [];
+      sound : NeverFails l.store.host;
+      taken : AreTaken l.constants l.count (unserved l.store) (drop l.ring-index l.given);
     }
