@@ -1,5 +1,5 @@
 -- What a tree says, where it is in the grammar of scripts: the whole grammar in one definition. Each key is optional.
-use Rattle.std.specs.Prelude.{ℕ, false, if◌then◌else◌, [], ◌∷◌, codes, Option, Some, None}
+use Rattle.std.specs.Prelude.{false, if◌then◌else◌, [], ◌∷◌, codes, Option, Some, None}
 use Rattle.serde_json.specs.Data.{Data}
 use Rattle.serde_json.specs.Find.{get}
 use Rattle.vub_script.specs.declared.device_form.DeviceForm.{DeviceForm}
