@@ -1,5 +1,5 @@
 -- The host takes each call by which a valid set-up is opened.
-use Rattle.std.proofs.Common.{◌≡◌, ℕ, suc, ◌+◌, zero, ◌<◌, ◌≤◌, ◌^◌, Bool, true, false, cond, not, ◌&&◌, ◌||◌, ◌⊎◌, inl, inr, List, [], ◌∷◌, ◌++◌, length, map, Option, Some, None, is_some, IfSome, refl, sym, ap, ◌∙◌, subst, arith, eqb, nat_lt, slice_index_or, slice_set}
+use Rattle.std.proofs.Common.{◌≡◌, ℕ, suc, ◌+◌, zero, ◌<◌, ◌≤◌, ◌^◌, Bool, true, false, cond, ◌&&◌, ◌||◌, ◌⊎◌, inl, inr, List, [], ◌∷◌, ◌++◌, length, map, Option, Some, None, is_some, IfSome, refl, sym, ap, ◌∙◌, subst, arith, eqb, nat_lt, slice_index_or, slice_set}
 use Rattle.std.specs.List.{AllByRecursion, list_any}
 use Rattle.std.proofs.lemmas.List.{get_or-set_same, get_or-set_other, get_or_past, length-set, length-append, length-map, get_or-map as mapped-at}
 use Rattle.std.proofs.lemmas.List.FromFn.{length-map-range_with_len}
@@ -7,7 +7,7 @@ use Rattle.std.proofs.lemmas.Bool.{cases_eq, cases_lt, eqb-true, lt-ltb, le-ltb}
 use Rattle.vub_event.specs.declared.event.Event.{Event}
 use Rattle.vub_event.specs.declared.member.Member.{Member}
 use Rattle.vub_event.specs.Counter.{write_refusal, greatest_count}
-use Rattle.vub_event.specs.HostTable.{HostTable, event_at, has_event, has_list, members_at, member_at, is_listed, with_members}
+use Rattle.vub_event.specs.HostTable.{HostTable, event_at, has_event, members_at, is_listed, with_members}
 use Rattle.vub_event.specs.HostCalls.{new_event, create_list_after, due_of, claim_test, claim_refusal, add_refusal, signal_refusal}
 use Rattle.vub_event.specs.InterestList.{member_of, with_member}
 use Rattle.vub_model.specs.declared.constants.Constants.{Constants}
@@ -17,11 +17,11 @@ use Rattle.vub_model.specs.declared.setup.Setup.{Setup}
 use Rattle.vub_model.specs.declared.wiring.Opened.{Opened}
 use Rattle.vub_model.specs.declared.wiring.Place.{Place}
 use Rattle.vub_model.specs.Frame.{claim_of}
-use Rattle.vub_model.specs.Held.{Held, count_of, count_at, raised, raised_event, raised_option, inserted}
+use Rattle.vub_model.specs.Held.{Held, count_of, count_at, raised, raised_option, inserted}
 use Rattle.vub_model.specs.Opening.{flags_of, opening_events, opened_worker, wiring_of, listed, exit_member, opening_members, claimed_event, claimed, joined, placed, registered_kick, registered, opening_table, before_rings}
 use Rattle.vub_model.specs.Schedule.{is_member}
 use Rattle.vub_model.specs.ValidSetup.{is_event_or_none, is_free_or_none, fault_of}
-use Rattle.vub_model.specs.Wiring.{Wiring, opened_at, no_worker, place_of, IsPlaced}
+use Rattle.vub_model.specs.Wiring.{Wiring, no_worker, place_of, IsPlaced}
 use Rattle.vub_model.proofs.OpeningMeets.{among-left, among-new, free-parts, object-below, events-at}
 use Rattle.vub_model.proofs.Places.{place-is}
 use Rattle.vub_model.proofs.Registering.{Among, member-first, member-more}

@@ -1,16 +1,14 @@
 -- What a worker's step leaves of the service, and of the workers.
-use Rattle.std.proofs.Common.{◌≡◌, ◌≢◌, ℕ, zero, suc, ◌+◌, ◌<◌, ◌⊎◌, inl, inr, Bool, true, false, List, [], ◌∷◌, length, get_or, set, Option, Some, None, IsSome, Result, Ok, Err, OnErr, refl, sym, ap, subst, ◌∙◌, arith}
+use Rattle.std.proofs.Common.{◌≡◌, ℕ, zero, suc, ◌+◌, ◌<◌, ◌⊎◌, inl, inr, Bool, true, false, List, [], ◌∷◌, length, get_or, set, Option, Some, None, IsSome, Result, Ok, Err, OnErr, refl, sym, ap, subst, ◌∙◌, arith}
 use Rattle.vub_queue.specs.declared.putting.PutFault.{PutFault}
-use Rattle.vub_queue.specs.declared.took.Took.TheVariants as took
 use Rattle.vub_model.specs.declared.entry.Entry.{Entry}
 use Rattle.vub_model.specs.declared.label.Label.{Label}
 use Rattle.vub_model.specs.declared.label.Label.TheVariants as label
 use Rattle.vub_model.specs.declared.phase.Phase.{Phase}
-use Rattle.vub_model.specs.declared.phase.Phase.TheVariants.{Idle, Polled, Sweep, Serving, Taken, Served}
-use Rattle.vub_model.specs.Held.{Held, raised, raised_or_none}
+use Rattle.vub_model.specs.Held.{Held}
 use Rattle.vub_model.specs.Service.{Meaning}
 use Rattle.vub_model.specs.Wiring.{Wiring}
-use Rattle.vub_model.specs.Work.{Local, MayWork, after_work, after_take, after_none, after_said, called, used, put_said}
+use Rattle.vub_model.specs.Work.{Local, MayWork, after_work, after_take, after_said, called, used, put_said}
 use Rattle.vub_model.proofs.Cases.{work-cases, event-held, take-leaf, none-leaf}
 use Rattle.vub_loop.specs.declared.handler.VringEpollHandler.{VringEpollHandler}
 use Rattle.vub_loop.specs.Finished.{finished_by}

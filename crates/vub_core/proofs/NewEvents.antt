@@ -1,5 +1,5 @@
 -- A new event has those of its flags that an event may have.
-use Rattle.std.proofs.Common.{◌≡◌, ℕ, ◌==◌, false, None, refl, ap, ◌+◌, arith}
+use Rattle.std.proofs.Common.{◌≡◌, ℕ, ◌==◌, false, None, refl, ap, arith}
 use Rattle.std.specs.Int.RustNames.{bit_and, bit_or}
 use Rattle.std.specs.Int.Bits.{or_add_and}
 use Rattle.std.proofs.lemmas.Nat.{and_assoc}

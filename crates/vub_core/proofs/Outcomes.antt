@@ -1,5 +1,5 @@
 -- What a schedule came to, from what playing it came to.
-use Rattle.std.proofs.Common.{◌≡◌, ℕ, ◌<◌, ◌≤◌, ◌^◌, ◌&&◌, Option, Some, None, fold, List, [], ◌∷◌, length, take, refl, sym, ap, subst, ◌∙◌, arith}
+use Rattle.std.proofs.Common.{◌≡◌, ℕ, ◌<◌, ◌&&◌, Option, Some, None, fold, List, [], ◌∷◌, length, take, refl, sym, subst, ◌∙◌, arith}
 use Rattle.std.proofs.lemmas.Bool.{cond_both}
 use Rattle.std.proofs.lemmas.List.{take_all}
 use Rattle.vub_model.specs.declared.constants.Constants.{Constants}
@@ -9,7 +9,6 @@ use Rattle.vub_model.specs.declared.run.DriveFault.TheVariants as drive_fault
 use Rattle.vub_model.specs.declared.run.Run.{Run}
 use Rattle.vub_model.specs.declared.setup.Setup.{Setup}
 use Rattle.vub_model.specs.RingRecord.{limit}
-use Rattle.vub_model.specs.Headline.{IsFresh}
 use Rattle.vub_model.specs.declared.setup.GivenRing.{GivenRing}
 use Rattle.vub_model.specs.declared.wiring.Place.{Place}
 use Rattle.vub_model.specs.Held.{Held}

@@ -1,26 +1,24 @@
 -- A world is at rest exactly where the guest's list is done and each worker rests.
-use Rattle.std.proofs.Common.{◌≡◌, ◌≢◌, ◌↔◌, ℕ, zero, suc, ◌+◌, ◌<◌, ◌≤◌, ◌&&◌, ◌||◌, ◌==◌, not, inl, inr, Bool, true, false, List, [], ◌∷◌, length, map, get_or, drop, nat_eq, IsTrue, length-drop, refl, sym, ap, subst, ◌∙◌, arith}
+use Rattle.std.proofs.Common.{◌≡◌, ◌≢◌, ◌↔◌, ℕ, zero, suc, ◌+◌, ◌<◌, ◌≤◌, ◌&&◌, ◌||◌, ◌==◌, not, inl, inr, Bool, true, false, List, [], ◌∷◌, length, map, get_or, drop, IsTrue, length-drop, refl, sym, ap, subst, ◌∙◌, arith}
 use Rattle.std.specs.List.{list_all, list_any}
 use Rattle.std.proofs.lemmas.Bool.{cases_Bool, cases_lt, and_parts, not-true, eq-eqb}
 use Rattle.std.proofs.lemmas.List.{get_or-map, get_or_past, length-map, drop_all}
 use Rattle.vub_event.specs.declared.ready.Ready.{Ready}
-use Rattle.vub_event.specs.HostTable.{HostTable, ready_members}
+use Rattle.vub_event.specs.HostTable.{ready_members}
 use Rattle.vub_model.specs.declared.cause.StopCause.TheVariants.{Exit}
 use Rattle.vub_model.specs.declared.label.Label.{Label}
 use Rattle.vub_model.specs.declared.label.Label.TheVariants as label
-use Rattle.vub_model.specs.declared.party.Party.{Party}
 use Rattle.vub_model.specs.declared.party.Party.TheVariants as party
 use Rattle.vub_model.specs.declared.phase.Phase.{Phase}
 use Rattle.vub_model.specs.declared.phase.Phase.TheVariants.{Idle, Polled, Sweep, Heard, Serving, Taken, Served, Stopped}
 use Rattle.vub_model.specs.declared.setup.Guest.{Guest}
-use Rattle.vub_model.specs.Held.{Held, is_ready}
+use Rattle.vub_model.specs.Held.{Held}
 use Rattle.vub_model.specs.Wiring.{Wiring, opened_at}
 use Rattle.vub_model.specs.Work.{MayWork}
-use Rattle.vub_model.specs.World.{World, May, phase_at}
-use Rattle.vub_model.specs.RunOf.{IsAtRest, HasNoStep}
+use Rattle.vub_model.specs.World.{World, phase_at}
+use Rattle.vub_model.specs.RunOf.{IsAtRest}
 use Rattle.vub_loop.specs.declared.handler.VringEpollHandler.{VringEpollHandler}
 use Rattle.vub_loop.specs.Handler.{IsHandler, phase_of}
-use Rattle.vub_loop.specs.Plays.{HasNoWork}
 use Rattle.vub_core.specs.Rest.{is_some_list, has_report, rests_in}
 use Rattle.vub_core.specs.Workers.{AreHandlers}
 use Rattle.vub_core.proofs.Kept.{handler-at}

@@ -1,5 +1,5 @@
 -- A worker's step with its records, as a turn of the world that the machine keeps.
-use Rattle.std.proofs.Common.{◌≡◌, ℕ, ◌<◌, Bool, List, ◌++◌, length, map, get_or, set, Option, refl, sym, ap, subst, ◌∙◌}
+use Rattle.std.proofs.Common.{◌≡◌, ℕ, ◌<◌, Bool, List, ◌++◌, length, map, get_or, set, Option, sym, ap, subst, ◌∙◌}
 use Rattle.std.proofs.lemmas.List.{map-set, get_or-map}
 use Rattle.vub_proto.specs.declared.used.Used.{Used}
 use Rattle.vub_model.specs.declared.cause.StopCause.TheVariants.{Exit}
@@ -20,7 +20,7 @@ use Rattle.vub_loop.specs.Plays.{Turns}
 use Rattle.vub_core.specs.declared.footprint.Footprint.{Footprint}
 use Rattle.vub_core.specs.Places.{IsFootprint}
 use Rattle.vub_core.specs.Recorded.{uses_in, IsWritten}
-use Rattle.vub_core.proofs.Turned.{turned, stepped}
+use Rattle.vub_core.proofs.Turned.{turned}
 
 phase-here : (workers : List VringEpollHandler) (k : ℕ) (old : VringEpollHandler) (phases : List Phase) → phases ≡ map (λ h. phase_of h) workers → k < length workers → old ≡ get_or workers k old → phase_of old ≡ phase_at phases k
 phase-here workers k old phases are within is =

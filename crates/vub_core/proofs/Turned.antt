@@ -1,13 +1,11 @@
 -- A worker's step with what the machine records of it is a turn of the world.
-use Rattle.std.proofs.Common.{◌≡◌, ◌≢◌, ℕ, ◌+◌, ◌<◌, ◌&&◌, not, Bool, true, false, cond, inl, inr, List, [], ◌∷◌, ◌++◌, length, get_or, set, fold, Option, Some, None, is_some, Result, Ok, Err, refl, sym, ap, ap₂, subst, ◌∙◌, append-nil, nat_lt}
+use Rattle.std.proofs.Common.{◌≡◌, ℕ, Bool, true, false, cond, inl, inr, List, [], ◌∷◌, ◌++◌, set, Option, Some, None, Result, Ok, Err, refl, sym, ap, subst, ◌∙◌, append-nil}
 use Rattle.std.proofs.lemmas.Bool.{cases_Bool, cond-true, cond-false}
 use Rattle.std.proofs.lemmas.List.{set-get_or}
 use Rattle.vub_mem.specs.declared.region.Region.{Region}
 use Rattle.vub_mem.specs.Memory.{Guest}
 use Rattle.vub_mem.specs.Place.{covers}
 use Rattle.vub_proto.specs.declared.used.Used.{Used}
-use Rattle.vub_queue.specs.declared.chain.Chain.{Chain}
-use Rattle.vub_queue.specs.declared.damage.Damage.{Damage}
 use Rattle.vub_queue.specs.declared.damage.Damage.TheVariants.{RingOutside}
 use Rattle.vub_queue.specs.declared.putting.PutFault.{PutFault}
 use Rattle.vub_queue.specs.declared.putting.PutFault.TheVariants as put_fault
@@ -31,18 +29,17 @@ use Rattle.vub_model.specs.Held.{Held, ring_at}
 use Rattle.vub_model.specs.Service.{Meaning}
 use Rattle.vub_model.specs.Wiring.{Wiring}
 use Rattle.vub_model.specs.Work.{Local, MayWork, after_work, after_took, after_said, serving, stopped, is_live, looked, put_said, why_of}
-use Rattle.vub_model.specs.World.{World, May, after, after_local, phase_at, takes_by, uses_by, used_of, written_by, if_used}
-use Rattle.vub_model.specs.Written.{Spot, spots_of, put_spots, take_spots, with_spots}
+use Rattle.vub_model.specs.World.{World, after, after_local, phase_at, takes_by, uses_by, used_of, written_by, if_used}
+use Rattle.vub_model.specs.Written.{spots_of, put_spots, take_spots, with_spots}
 use Rattle.vub_model.specs.RunOf.{Turn}
-use Rattle.vub_model.proofs.Cases.{work-cases, take-leaf}
+use Rattle.vub_model.proofs.Cases.{work-cases}
 use Rattle.vub_model.proofs.Confined.{confined-work}
 use Rattle.vub_loop.specs.declared.finished.Finished.{Finished}
 use Rattle.vub_loop.specs.Finished.{finished_by}
 use Rattle.vub_loop.specs.Plays.{Turns}
 use Rattle.vub_core.specs.declared.footprint.Footprint.{Footprint}
 use Rattle.vub_core.specs.declared.footprint.Footprint.TheVariants.{Nothing, Use, Event}
-use Rattle.vub_core.specs.declared.footprint.UsePlace.{UsePlace}
-use Rattle.vub_core.specs.Places.{IsUsePlace, IsEventPlace, IsEventFootprint, IsFootprint}
+use Rattle.vub_core.specs.Places.{IsEventFootprint, IsFootprint}
 use Rattle.vub_core.specs.Recorded.{uses_in, left_none, IsWritten}
 
 -- The uses

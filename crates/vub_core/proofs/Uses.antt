@@ -1,5 +1,5 @@
 -- What the use of an entry writes is flagged.
-use Rattle.std.proofs.Common.{◌≡◌, ℕ, ◌+◌, ◌*◌, ◌%◌, Bool, true, false, inl, inr, List, ◌++◌, Ok, Err, refl, sym, ap, ◌∙◌, fold, not, cond}
+use Rattle.std.proofs.Common.{◌≡◌, ℕ, ◌+◌, ◌*◌, Bool, true, inl, inr, List, ◌++◌, Ok, Err, sym, ap, ◌∙◌}
 use Rattle.std.proofs.lemmas.Bool.{and_parts, cases_Bool}
 use Rattle.std.proofs.lemmas.List.Sums.{fold-append}
 use Rattle.vub_mem.specs.declared.region.Region.{Region}
@@ -8,7 +8,6 @@ use Rattle.vub_queue.specs.declared.chain.Chain.{Chain}
 use Rattle.vub_queue.specs.declared.putting.PutFault.TheVariants.{RoomOutside, RingOutside}
 use Rattle.vub_queue.specs.Layout.{at_of, used_element_at, used_index_at}
 use Rattle.vub_queue.specs.Put.{room_covers, used_covers, put_answer}
-use Rattle.vub_queue.specs.Notification.{used_event_covers}
 use Rattle.vub_queue.specs.Ring.{Ring}
 use Rattle.vub_model.specs.Written.{spots_of, reply_spots, put_spots, flagged, with_spots}
 use Rattle.vub_core.specs.declared.footprint.UsePlace.{UsePlace}

@@ -1,6 +1,5 @@
 -- Flags of written bytes, as runs of them are set.
-use Rattle.std.specs.Prelude.{ℕ, zero, suc, ◌+◌, Bool, true, List, [], slice_set, slice_index_or, map}
-use Rattle.vub_model.specs.Written.{Spot}
+use Rattle.std.specs.Prelude.{ℕ, zero, suc, ◌+◌, Bool, true, List, [], slice_set, slice_index_or}
 
 -- the flags with this many set, from this place on
 abbrev pub filled : List Bool → ℕ → ℕ → List Bool

@@ -1,5 +1,5 @@
 -- Where a ring's words are written, as the machine reads it off a ring before a step.
-use Rattle.std.specs.Prelude.{◌≡◌, ℕ, ◌%◌, ◌&&◌, true, false, List, [], ◌∷◌, slice_index_or}
+use Rattle.std.specs.Prelude.{◌≡◌, ◌%◌, ◌&&◌, true, false, List, [], ◌∷◌, slice_index_or}
 use Rattle.vub_queue.specs.Layout.{at_of}
 use Rattle.vub_queue.specs.Ring.{Ring}
 use Rattle.vub_model.specs.declared.phase.Phase.{Phase}

@@ -1,5 +1,5 @@
 //! The host of a new machine: an event for each object, and a bell and an interest list for each worker.
-ghost use Rattle.std.specs.Prelude.{◌≡◌, ℕ, ◌+◌, ◌<◌, ◌^◌, true, [], ◌∷◌, ◌++◌, length, map, Some, None, IfOk, OnOk, IfSome};
+ghost use Rattle.std.specs.Prelude.{◌≡◌, ℕ, ◌+◌, ◌<◌, ◌^◌, true, [], ◌∷◌, ◌++◌, length, map, Some, IfOk, OnOk, IfSome};
 ghost use Rattle.std.specs.List.{range_with_len};
 ghost use Rattle.vub_event.specs.HostTable.{has_event, members_at, with_members};
 ghost use Rattle.vub_event.specs.HostCalls.{new_event, create_event_after, create_list_after, add_refusal};

@@ -1,5 +1,5 @@
 //! The registration of the given rings.
-ghost use Rattle.std.specs.Prelude.{◌≡◌, ◌+◌, ◌<◌, ◌^◌, Some, None, length, fold, slice_set, slice_index_or, [], OnOk};
+ghost use Rattle.std.specs.Prelude.{◌≡◌, ◌+◌, ◌<◌, ◌^◌, Some, length, fold, slice_set, slice_index_or, [], OnOk};
 ghost use Rattle.vub_event.specs.HostTable.{event_at, with_event};
 ghost use Rattle.vub_event.specs.HostCalls.{claim_refusal, add_refusal, signal_refusal};
 ghost use Rattle.vub_model.specs.Held.{raised_option, with_number};

@@ -16,7 +16,7 @@ use Rattle.vub_model.specs.declared.setup.Guest.{Guest}
 use Rattle.vub_model.specs.declared.setup.Guest.TheVariants.{Store, Signal}
 use Rattle.vub_model.specs.Held.{Held, ring_at}
 use Rattle.vub_model.specs.Service.{Meaning}
-use Rattle.vub_model.specs.Wiring.{Wiring, HasWorker}
+use Rattle.vub_model.specs.Wiring.{HasWorker}
 use Rattle.vub_model.specs.Work.{Local, MayWork, after_work, after_take, after_put, after_said, after_sweep, called, used, put_said}
 use Rattle.vub_model.specs.World.{World, May, after, after_guest, after_local, phase_at, take_of, used_of}
 use Rattle.vub_model.specs.RunOf.{IsRun, Turn, next, party_of}

@@ -22,7 +22,7 @@ use Rattle.vub_model.specs.declared.setup.Guest.TheVariants.{Store, Signal}
 use Rattle.vub_model.specs.declared.wiring.Place.{Place}
 use Rattle.vub_model.specs.Held.{Held, ring_at, pending_at, swept, is_ready, token_of, token_in}
 use Rattle.vub_model.specs.Service.{Meaning}
-use Rattle.vub_model.specs.Wiring.{Wiring, opened_at, place_of, queues_of, HasWorker}
+use Rattle.vub_model.specs.Wiring.{Wiring, opened_at, queues_of, HasWorker}
 use Rattle.vub_model.specs.Work.{Local, MayWork, after_work, after_event, after_sweep, after_take, after_took, after_put, after_said, called, used, queues_numbered, put_said, serving}
 use Rattle.vub_model.specs.World.{World, May, after, after_guest, after_local, phase_at}
 use Rattle.vub_model.specs.RunOf.{Turn, IsRun, party_of}

@@ -15,7 +15,7 @@ use Rattle.vub_model.specs.RingRecord.{closed_ring, is_on, has_addresses}
 use Rattle.vub_model.specs.EntryNumber.{has_left}
 use Rattle.vub_model.specs.Frame.{Frame, frame_of, known_of}
 use Rattle.vub_model.specs.Held.{Held, ring_at, count_at, pending_at, has_number}
-use Rattle.vub_model.specs.Wiring.{Wiring, opened_at, place_of, IsPlaced, HasWorker}
+use Rattle.vub_model.specs.Wiring.{Wiring, opened_at, IsPlaced, HasWorker}
 use Rattle.vub_model.specs.World.{World, phase_at}
 use Rattle.vub_model.specs.Running.{HasStopped}
 

@@ -1,5 +1,4 @@
-use Rattle.std.proofs.Common.{rules, ◌≡◌, ◌∙◌, refl, sym, ap, subst}
-use Rattle.vub_model.specs.declared.constants.Constants.{Constants}
+use Rattle.std.proofs.Common.{rules, refl}
 use Rattle.vub_model.specs.Constants.{constants_of}
 use Rattle.vub_model.specs.Service.{meaning}
 use Rattle.vub_model.specs.ValidSetup.{fault_of}

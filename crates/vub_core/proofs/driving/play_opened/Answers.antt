@@ -1,9 +1,9 @@
-use Rattle.std.proofs.Common.{rules, ◌≡◌, ◌∙◌, ◌<◌, ◌^◌, ℕ, List, length, refl, sym, ap, subst, arith}
+use Rattle.std.proofs.Common.{rules, ◌≡◌, ◌∙◌, ◌<◌, ◌^◌, List, length, refl, subst, arith}
 use Rattle.vub_model.specs.declared.setup.Guest.{Guest}
 use Rattle.vub_model.specs.declared.setup.Object.{Object}
 use Rattle.vub_model.specs.Service.{meaning}
 use Rattle.vub_model.specs.World.{World}
-use Rattle.vub_model.specs.Opening.{opening, wiring_of}
+use Rattle.vub_model.specs.Opening.{wiring_of}
 use Rattle.vub_model.specs.RunRecords.{Shows}
 use Rattle.vub_core.specs.Machine.{world_of}
 use Rattle.vub_core.specs.Played.{HasPlayed, WasCutShort}

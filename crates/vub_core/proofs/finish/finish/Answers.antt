@@ -1,7 +1,6 @@
-use Rattle.std.proofs.Common.{rules, ◌≡◌, ◌∙◌, List, map, refl, sym, ap, subst}
-use Rattle.vub_model.specs.RunRecords.{Shows, stops_from, counts_from, spans_from}
+use Rattle.std.proofs.Common.{◌∙◌, map, ap}
+use Rattle.vub_model.specs.RunRecords.{stops_from, counts_from, spans_from}
 use Rattle.vub_loop.specs.Handler.{phase_of}
-use Rattle.vub_core.specs.Machine.{world_of}
 use Rattle.vub_core.proofs.finish.finish.Goals as goal
 
 pub returns : goal.returns

@@ -1,4 +1,4 @@
-use Rattle.std.proofs.Common.{◌≡◌, [], ◌++◌, map, take, Some}
+use Rattle.std.proofs.Common.{◌≡◌, ◌++◌, map, take, Some}
 use Rattle.vub_event.specs.HostCalls.{new_event}
 use Rattle.vub_core.specs.Hosts.{NeverFails}
 use Rattle.vub_core.proofs.new_host.create_bells.Given as goal

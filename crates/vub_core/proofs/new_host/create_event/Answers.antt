@@ -1,4 +1,4 @@
-use Rattle.std.proofs.Common.{Err, refl, ap}
+use Rattle.std.proofs.Common.{Err, ap}
 use Rattle.vub_core.proofs.HostCauses.{only-memory}
 use Rattle.vub_core.proofs.NewEvents.{cut_flags}
 use Rattle.vub_core.proofs.new_host.create_event.Goals as goal

@@ -1,4 +1,4 @@
-use Rattle.std.proofs.Common.{◌≡◌, [], ◌++◌, map, take, Some}
+use Rattle.std.proofs.Common.{◌≡◌, ◌++◌, map, take, Some}
 use Rattle.vub_event.specs.HostCalls.{new_event}
 use Rattle.vub_model.specs.Opening.{flags_of}
 use Rattle.vub_core.specs.Hosts.{NeverFails}

@@ -1,4 +1,4 @@
-use Rattle.std.proofs.Common.{◌≡◌, [], map}
+use Rattle.std.proofs.Common.{◌≡◌, map}
 use Rattle.std.specs.List.{range_with_len}
 use Rattle.vub_model.specs.Opening.{opened_worker, opening_members}
 use Rattle.vub_core.specs.Hosts.{NeverFails}

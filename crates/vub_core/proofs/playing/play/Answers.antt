@@ -1,4 +1,4 @@
-use Rattle.std.proofs.Common.{rules, ◌≡◌, ◌≤◌, ◌<◌, ◌+◌, ◌++◌, ◌∷◌, [], length, sym, ap, refl, ◌∙◌, arith, length-append}
+use Rattle.std.proofs.Common.{rules, ◌≡◌, ◌+◌, ◌++◌, ◌∷◌, [], length, ap, refl, ◌∙◌, arith, length-append}
 use Rattle.vub_model.specs.Service.{meaning}
 use Rattle.vub_core.specs.Machine.{world_of}
 use Rattle.vub_core.proofs.Kept.{on-err}

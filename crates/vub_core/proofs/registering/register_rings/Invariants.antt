@@ -1,4 +1,4 @@
-use Rattle.std.proofs.Common.{◌≡◌, [], fold, length, take, drop}
+use Rattle.std.proofs.Common.{◌≡◌, fold, length, take, drop}
 use Rattle.vub_model.specs.Opening.{wiring_of, registered}
 use Rattle.vub_core.specs.Hosts.{NeverFails}
 use Rattle.vub_core.specs.Opened.{unserved, AreTaken}

@@ -1,4 +1,4 @@
-use Rattle.std.proofs.Common.{rules, ◌≡◌, ◌<◌, ◌≤◌, ◌∙◌, false, length, refl, sym, ap, arith}
+use Rattle.std.proofs.Common.{rules, ◌∙◌, refl, ap, arith}
 use Rattle.std.specs.List.{list_all}
 use Rattle.vub_loop.specs.Handler.{phase_of}
 use Rattle.vub_core.specs.Machine.{world_of}

@@ -1,5 +1,4 @@
-use Rattle.std.proofs.Common.{◌∙◌, sym, ap, ◌++◌}
-use Rattle.vub_model.specs.RunRecords.{spans_in}
+use Rattle.std.proofs.Common.{◌∙◌, sym}
 use Rattle.vub_core.proofs.Runs.{push_none}
 use Rattle.vub_core.proofs.spans.push_content.Goals as goal
 

@@ -1,4 +1,4 @@
-use Rattle.std.proofs.Common.{◌≡◌, ℕ, ◌-◌, ◌≤◌, ◌++◌, Bool, List, [], length, drop, slice_index_or}
+use Rattle.std.proofs.Common.{◌≡◌, ◌-◌, ◌≤◌, ◌++◌, Bool, List, [], length, drop, slice_index_or}
 use Rattle.vub_model.specs.RunRecords.{spans_in}
 use Rattle.vub_core.proofs.spans.push_runs.Given as goal
 

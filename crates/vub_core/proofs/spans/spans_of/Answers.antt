@@ -1,6 +1,5 @@
-use Rattle.std.proofs.Common.{◌∙◌, sym, ap, ◌++◌, arith}
+use Rattle.std.proofs.Common.{sym}
 use Rattle.vub_model.specs.declared.setup.Object.TheVariants.{Event}
-use Rattle.vub_model.specs.RunRecords.{spans_in}
 use Rattle.vub_core.proofs.Runs.{next_content}
 use Rattle.vub_core.proofs.spans.spans_of.Goals as goal
 

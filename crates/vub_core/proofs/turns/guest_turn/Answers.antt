@@ -1,7 +1,6 @@
-use Rattle.std.proofs.Common.{rules, ◌≡◌, ◌∙◌, refl, sym, ap}
+use Rattle.std.proofs.Common.{refl, sym}
 use Rattle.std.proofs.lemmas.Bool.{ltb-true}
 use Rattle.vub_model.specs.Service.{meaning}
-use Rattle.vub_vring.specs.Store.{held_of}
 use Rattle.vub_core.specs.Machine.{world_of}
 use Rattle.vub_core.proofs.Acting.{guest-turned}
 use Rattle.vub_core.proofs.turns.guest_turn.Goals as goal

@@ -1,4 +1,4 @@
-use Rattle.std.proofs.Common.{rules, ◌≡◌, ◌∙◌, ◌++◌, ◌<◌, ◌⊎◌, List, length, IsSome, Option, sym, ap, subst, refl}
+use Rattle.std.proofs.Common.{rules, ◌≡◌, ◌∙◌, ◌++◌, ◌<◌, ◌⊎◌, List, length, IsSome, Option, ap, subst, refl}
 use Rattle.vub_model.specs.declared.label.Label.TheVariants as label
 use Rattle.vub_model.specs.declared.phase.Phase.{Phase}
 use Rattle.vub_model.specs.Service.{meaning}
@@ -10,7 +10,7 @@ use Rattle.vub_loop.specs.Handler.{phase_of}
 use Rattle.vub_vring.specs.Store.{held_of}
 use Rattle.vub_core.specs.Machine.{world_of}
 use Rattle.vub_core.specs.Places.{IsFootprint}
-use Rattle.vub_core.specs.Recorded.{uses_in, IsWritten}
+use Rattle.vub_core.specs.Recorded.{IsWritten}
 use Rattle.vub_core.proofs.Kept.{handler-here, handlers-again, same-taken, turn-keeps, on-err}
 use Rattle.vub_core.proofs.Stepping.{machine-turned}
 use Rattle.vub_core.proofs.turns.worker_turn.Goals as goal

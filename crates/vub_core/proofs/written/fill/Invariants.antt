@@ -1,4 +1,4 @@
-use Rattle.std.proofs.Common.{◌≡◌, ℕ}
+use Rattle.std.proofs.Common.{◌≡◌}
 use Rattle.vub_core.specs.Flags.{filled}
 use Rattle.vub_core.proofs.written.fill.Given as goal
 

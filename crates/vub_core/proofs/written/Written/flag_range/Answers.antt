@@ -1,4 +1,4 @@
-use Rattle.std.proofs.Common.{◌≡◌, ◌+◌, ◌<◌, ◌≤◌, ℕ, ◌∙◌, sym, ap, subst, refl, arith, rules}
+use Rattle.std.proofs.Common.{◌∙◌, sym}
 use Rattle.vub_core.proofs.Flags.{flags_next, place_none}
 use Rattle.vub_core.proofs.written.Written.flag_range.Goals as goal
 

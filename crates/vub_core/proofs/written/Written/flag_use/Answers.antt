@@ -1,4 +1,4 @@
-use Rattle.std.proofs.Common.{◌≡◌, ◌∙◌, sym, ap, true}
+use Rattle.std.proofs.Common.{◌∙◌, ap}
 use Rattle.vub_queue.specs.Put.{room_covers}
 use Rattle.vub_model.specs.Written.{reply_spots, with_spots}
 use Rattle.vub_core.proofs.Uses.{use_flagged}
