@@ -1,14 +1,18 @@
 -- A ring in a memory gives one answer.
-use Rattle.std.proofs.Common.{◌≡◌, ℕ, ◌⊎◌, inl, inr, List, ◌+◌, length, Bool, true, false, true≢false, refl, sym, ap, subst, ◌∙◌}
+use Rattle.std.proofs.Common.{◌≡◌, ℕ, ◌⊎◌, inl, inr, List, ◌+◌, ◌==◌, length, Bool, true, false, not, cond, nat_lt, true≢false, refl, sym, ap, subst, ◌∙◌}
 use Rattle.vub_mem.specs.Memory.{Guest}
 use Rattle.vub_queue.specs.Chain.{IsChain, chain_of}
-use Rattle.vub_queue.specs.Layout.{table_of}
+use Rattle.std.specs.Int.{w16}
+use Rattle.vub_mem.specs.Place.{covers, number_at}
+use Rattle.vub_queue.specs.EntryNumber.{index_covers, left_of}
+use Rattle.vub_queue.specs.Layout.{avail_slot_at, table_of}
 use Rattle.vub_queue.specs.Ring.{Ring}
-use Rattle.vub_queue.specs.Take.{IsDamaged, IsEntry, Taken, event_covers, head_of}
+use Rattle.vub_queue.specs.Take.{Costs, IsDamaged, IsEntry, Taken, event_covers, head_of}
 use Rattle.vub_queue.specs.Walk.{FailsFirst}
 use Rattle.vub_queue.proofs.Chains.{links_one, chain_whole, fails_one}
 use Rattle.vub_queue.specs.declared.chain.Chain.{Chain}
 use Rattle.vub_queue.specs.declared.damage.Damage.{Damage}
+use Rattle.vub_queue.specs.declared.damage.Damage.TheVariants.{TooLong, RingOutside, IndexAhead}
 use Rattle.vub_queue.specs.declared.descriptor.Descriptor.{Descriptor}
 use Rattle.vub_queue.specs.declared.head.Head.{Head}
 use Rattle.vub_queue.specs.declared.head.Head.TheVariants.{Empty, At, Broken}
@@ -90,3 +94,34 @@ taken_one g r took.None (took.Damaged d) p q = absurd (nothing_or_damage g r d p
 taken_one g r (took.Damaged d) (took.Entry e) p q = absurd (entry_or_damage_here g r e d q p)
 taken_one g r (took.Damaged d) took.None p q = absurd (nothing_or_damage g r d q p)
 taken_one g r (took.Damaged d) (took.Damaged e) p q = ap took.Damaged (one_damage_here g r d e p q)
+
+-- the available ring's own tests find no chain too long
+tests_not_long : (a b c d : Bool) (n : ℕ) → cond a (Broken RingOutside) (cond b (Broken IndexAhead) (cond c Empty (cond d (Broken RingOutside) (At n)))) ≡ Broken TooLong → ⊥
+tests_not_long true b c d n e = cc
+tests_not_long false true c d n e = cc
+tests_not_long false false true d n e = cc
+tests_not_long false false false true n e = cc
+tests_not_long false false false false n e = cc
+
+head_not_long : (g : Guest) (r : Ring) → head_of g r ≡ Broken TooLong → ⊥
+unfolding head_of
+head_not_long g r e = tests_not_long (not (index_covers g r)) (nat_lt r.size (left_of g r)) (left_of g r == 0) (not (covers g.regions (avail_slot_at r) 2)) (number_at w16 g (avail_slot_at r)) e
+
+too_long : TooLong ≡ RingOutside → ⊥
+too_long e = cc
+
+-- a chain that is too long costs as many steps as the table has descriptors
+pub long_cost : (g : Guest) (r : Ring) (t : Took) (old new : ℕ) → Taken g r t → Costs g r old new t → t ≡ took.Damaged TooLong → new ≡ old + r.size
+long_cost g r t old new taken cost is =
+    let damaged : Taken g r (took.Damaged TooLong) = subst (λ x. Taken g r x) is taken in
+    let costs : Costs g r old new (took.Damaged TooLong) = subst (λ x. Costs g r old new x) is cost in
+    elim costs [
+      | inr walk ↦ walk.2.4
+      | inl none ↦ elim none.0 [
+        | inl broken ↦ absurd (head_not_long g r broken)
+        | inr empty ↦ elim damaged [
+          | inl looked ↦ absurd (empty_or_damage g r TooLong empty looked)
+          | inr event ↦ absurd (too_long event.3)
+        ]
+      ]
+    ]

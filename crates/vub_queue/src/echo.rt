@@ -1,5 +1,6 @@
 //! Callers of take and put, as a service loop makes them.
-ghost use Rattle.std.specs.Prelude.{◌≡◌, ◌+◌, ◌<◌, ◌≤◌, IsSome, IfOk};
+ghost use Rattle.std.specs.Prelude.{◌≡◌, ◌+◌, ◌<◌, IsSome, IfOk};
+ghost use Rattle.std.specs.Bool.{OnTrue};
 ghost use Rattle.vub_queue.specs.Take.{HasRoom};
 
 use crate::damage::Damage;
@@ -51,7 +52,7 @@ pub(crate) fn echo_once<L: DirtyLog, K: Ledger>(
     }
 }
 
-/// Whether a take finds a chain that is too long, in at most as many steps as the ring has descriptors.
+/// Whether a take finds a chain that is too long, which costs as many steps as the ring has descriptors.
 pub(crate) fn is_too_long<L: DirtyLog, K: Ledger>(
     alloc: Global,
     queue: &mut Queue,
@@ -59,7 +60,7 @@ pub(crate) fn is_too_long<L: DirtyLog, K: Ledger>(
     steps: &mut Steps<K>,
 ) -> Result<bool, OutOfMemory>
     requires { IsSome queue.old.addresses }
-    ensures { steps.new ≤ steps.old + queue.old.size }
+    ensures { IfOk result (λ long. OnTrue long (steps.new ≡ steps.old + queue.old.size)) }
 {
     match take(alloc, queue, memory, steps)? {
         Took::Damaged(damage) => match damage {

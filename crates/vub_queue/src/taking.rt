@@ -3,6 +3,7 @@ ghost use Rattle.std.specs.List.{AllByRecursion};
 ghost use Rattle.vub_mem.specs.Marks.{MarksAll, page_marks};
 ghost use Rattle.vub_queue.specs.Chain.{IsCovered, chain_of, read_part, request_of, segments_of, total};
 ghost use Rattle.vub_queue.specs.Take.{Costs, HasRoom, Looks, Taken, guest_taken, marks_taken, ring_taken};
+ghost use Rattle.vub_queue.specs.declared.damage.Damage.{Damage};
 ghost use Rattle.vub_queue.specs.declared.took.Took.{Took};
 
 use crate::chain::Chain;
@@ -157,6 +158,7 @@ pub fn take<L: DirtyLog, K: Ledger>(
     ensures regions { memory.new.guest.regions ≡ memory.old.guest.regions }
     ensures logs { IfOk result (λ t. MarksAll (page_marks L.byte_len L.marks) memory.old.logs (marks_taken memory.old.guest.regions queue.old t) memory.new.logs) }
     ensures cost { IfOk result (Costs memory.old.guest queue.old steps.old steps.new) }
+    ensures long { IfOk result (λ t. t ≡ Took.Damaged Damage.TooLong → steps.new ≡ steps.old + queue.old.size) }
     ensures most { steps.new ≤ steps.old + queue.old.size }
     ensures room { IfOk result HasRoom }
     ensures err { OnErr result (queue.new ≡ queue.old) }
