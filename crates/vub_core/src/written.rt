@@ -1,4 +1,4 @@
-ghost use Rattle.std.specs.Prelude.{◌≡◌, ◌+◌, ◌<◌, Bool, true, Ok, [], length, map, take, drop, slice_index_or, IfOk};
+ghost use Rattle.std.specs.Prelude.{◌≡◌, ◌+◌, ◌<◌, Bool, true, Ok, [], length, map, slice_index_or, IfOk};
 ghost use Rattle.vub_mem.specs.Place.{covers};
 ghost use Rattle.vub_queue.specs.Layout.{avail_event_at};
 ghost use Rattle.vub_queue.specs.Put.{room_covers, put_answer};
@@ -14,7 +14,7 @@ use std::marker::Model;
 use vub_base::OutOfMemory;
 use vub_mem::GuestMemory;
 use vub_model::Object;
-use vub_queue::{Chain, Segment};
+use vub_queue::{Chain, Segment, split};
 
 /// Which bytes of each object takes and puts wrote. A contract sees a list of flags for each object, by number.
 #[derive(Drop)]
@@ -49,18 +49,6 @@ fn fill(flags: &mut [bool], from: usize, count: usize)
     let here = count.min(flags.len().saturating_sub(from));
     for done in 0..here {
         flags[from + done] = true;
-    }
-}
-
-/// The first bytes of the rest, at most `len`, and those after them.
-fn split(rest: &[u8], len: u32) -> (&[u8], &[u8])
-    ensures front { result.0.now ≡ take len rest.now }
-    ensures back { result.1.now ≡ drop len rest.now }
-{
-    if (len as usize) < rest.len() {
-        rest.split_at(len as usize)
-    } else {
-        (rest, &[])
     }
 }
 

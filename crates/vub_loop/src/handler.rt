@@ -1,4 +1,4 @@
-ghost use Rattle.std.specs.Prelude.{◌≡◌, ◌≤◌, ℕ, IfOk, IfErr, OnErr};
+ghost use Rattle.std.specs.Prelude.{◌≡◌, ◌≤◌, ℕ, IfOk, IfErr, IsOk, OnErr};
 ghost use Rattle.std.specs.Option.{ForSome};
 ghost use Rattle.vub_base.specs.Causes.{Rose};
 ghost use Rattle.vub_base.specs.Told.{Told};
@@ -82,9 +82,7 @@ impl VringEpollHandler {
         ensures finished { IfOk result (λ polled. self.new.finished ≡ None) }
         ensures same { SameWorker self.old self.new }
         ensures stops { StopsByFault (phase_of self.old) (phase_of self.new) (Rose (P.fault_count parts.old) (P.fault_count parts.new)) }
-        ensures error { IfErr result (λ e. e ≡ VringEpollError.OutOfMemory) }
-        ensures err { OnErr result (self.new ≡ self.old) }
-        ensures held { OnErr result (P.held parts.new ≡ P.held parts.old) }
+        ensures ok { IsOk result }
         ensures later { P.fault_count parts.old ≤ P.fault_count parts.new }
         ensures still { P.never_fails parts.old → P.never_fails parts.new }
         ensures loan { P.loan parts.new ≡ P.loan parts.old }
@@ -119,10 +117,7 @@ impl VringEpollHandler {
         }
     }
 
-    /// Poll: an idle worker picks a ready member of its interest list.
-    ///
-    /// # Errors
-    /// Want of memory leaves the worker and the parts as they were.
+    /// Poll: an idle worker picks a ready member of its interest list. Takes no memory, and is never refused.
     pub fn poll_step<P: Parts>(
         &mut self,
         alloc: Global,
@@ -132,9 +127,7 @@ impl VringEpollHandler {
         ensures finished { IfOk result (λ played. self.new.finished ≡ None) }
         ensures same { SameWorker self.old self.new }
         ensures stops { StopsByFault (phase_of self.old) (phase_of self.new) (Rose (P.fault_count parts.old) (P.fault_count parts.new)) }
-        ensures error { IfErr result (λ e. e ≡ VringEpollError.OutOfMemory) }
-        ensures err { OnErr result (self.new ≡ self.old) }
-        ensures held { OnErr result (P.held parts.new ≡ P.held parts.old) }
+        ensures ok { IsOk result }
         ensures later { P.fault_count parts.old ≤ P.fault_count parts.new }
         ensures still { P.never_fails parts.old → P.never_fails parts.new }
         ensures loan { P.loan parts.new ≡ P.loan parts.old }
@@ -212,10 +205,7 @@ impl VringEpollHandler {
         }
     }
 
-    /// Sweep: all pending numbers are taken, and their queues are served, in order.
-    ///
-    /// # Errors
-    /// Want of memory leaves the worker and the parts as they were.
+    /// Sweep: all pending numbers are taken, and their queues are served, in order. Takes no memory, and is never refused.
     pub fn sweep_step<P: Parts>(
         &mut self,
         alloc: Global,
@@ -225,9 +215,7 @@ impl VringEpollHandler {
         ensures finished { IfOk result (λ played. self.new.finished ≡ None) }
         ensures same { SameWorker self.old self.new }
         ensures stops { StopsByFault (phase_of self.old) (phase_of self.new) (Rose (P.fault_count parts.old) (P.fault_count parts.new)) }
-        ensures error { IfErr result (λ e. e ≡ VringEpollError.OutOfMemory) }
-        ensures err { OnErr result (self.new ≡ self.old) }
-        ensures held { OnErr result (P.held parts.new ≡ P.held parts.old) }
+        ensures ok { IsOk result }
         ensures later { P.fault_count parts.old ≤ P.fault_count parts.new }
         ensures still { P.never_fails parts.old → P.never_fails parts.new }
         ensures loan { P.loan parts.new ≡ P.loan parts.old }
