@@ -1,6 +1,8 @@
 //! Inputs that are no script or past a limit, and streams with faults: each has its status.
 
-use crate::playing::{Streams, play, sound_streams};
+use crate::playing::{Streams, expect, play, sound_streams};
+use std::alloc::Global;
+use std::process::Abort;
 use std::test::Fail;
 
 /// The text of a run without turns.
@@ -103,56 +105,51 @@ fn faults() -> [Case; 5] {
     ]
 }
 
-#[test]
-fn each_input_has_its_status(rt: HostRuntime) -> Result<(), Fail> {
-    let alloc = rt.alloc();
+/// Each case, without words, ends with its status and writes its text.
+fn expect_statuses(rt: &impl Abort, alloc: Global, cases: &[Case]) -> Result<(), Fail> {
     let words: Vec<String> = Vec::new(alloc);
-    for case in inputs() {
+    for case in cases {
         let input = Vec::from_slice(alloc, case.input.as_bytes())?;
         let played = play(alloc, words.as_slice(), input, &case.streams)?;
-        let name = case.name;
-        assert_eq!(rt; played.status, case.status, "{name}");
-        assert_eq!(rt; played.has_run, case.status == 0, "{name}");
-        assert_eq!(rt;
-            played.written.as_slice(),
-            case.written.as_bytes(),
-            "{name}"
-        );
+        expect(rt, case.name, &played, case.status, case.written);
     }
     Ok(())
+}
+
+#[test]
+fn each_input_has_its_status(rt: HostRuntime) -> Result<(), Fail> {
+    expect_statuses(&rt, rt.alloc(), &inputs())
 }
 
 #[test]
 fn each_fault_has_its_status(rt: HostRuntime) -> Result<(), Fail> {
+    expect_statuses(&rt, rt.alloc(), &faults())
+}
+
+/// Of an input that is one byte too long the last byte is the first of the read numbered 256; later reads are not made.
+#[test]
+fn no_byte_past_a_long_input_is_read(rt: HostRuntime) -> Result<(), Fail> {
     let alloc = rt.alloc();
     let words: Vec<String> = Vec::new(alloc);
-    for case in faults() {
-        let input = Vec::from_slice(alloc, case.input.as_bytes())?;
-        let played = play(alloc, words.as_slice(), input, &case.streams)?;
-        let name = case.name;
-        assert_eq!(rt; played.status, case.status, "{name}");
-        assert_eq!(rt; played.has_run, case.status == 5, "{name}");
-        assert_eq!(rt;
-            played.written.as_slice(),
-            case.written.as_bytes(),
-            "{name}"
-        );
+    for (failing, status) in [(257, 7), (256, 4)] {
+        let input = vec![in alloc; b' '; 16777218]?;
+        let streams = Streams {
+            read_piece: 65536,
+            failing_read: Some(failing),
+            ..sound_streams()
+        };
+        let played = play(alloc, words.as_slice(), input, &streams)?;
+        expect(&rt, "a long input", &played, status, "");
     }
     Ok(())
 }
 
 #[test]
-fn words_and_long_inputs_are_refused(rt: HostRuntime) -> Result<(), Fail> {
+fn words_are_refused(rt: HostRuntime) -> Result<(), Fail> {
     let alloc = rt.alloc();
-    let mut words: Vec<String> = Vec::new(alloc);
-    let long = vec![in alloc; b' '; 16777217]?;
-    let played = play(alloc, words.as_slice(), long, &sound_streams())?;
-    assert_eq!(rt; played.status, 7);
-    assert!(rt; played.written.is_empty());
-    words.push(String::from_str(alloc, "x")?)?;
+    let words = vec![in alloc; String::from_str(alloc, "x")?]?;
     let script = Vec::from_slice(alloc, b"{}")?;
     let played = play(alloc, words.as_slice(), script, &sound_streams())?;
-    assert_eq!(rt; played.status, 1);
-    assert!(rt; played.written.is_empty());
+    expect(&rt, "a word after the script", &played, 1, "");
     Ok(())
 }

@@ -2,7 +2,7 @@
 //! bytes say.
 
 use crate::base::{Case, base};
-use crate::runs::played;
+use crate::runs::expect_texts;
 use std::test::Fail;
 
 const SEGMENT_OUTSIDE: &str =
@@ -130,22 +130,10 @@ write 0 8194 01000000000000000000
 
 #[test]
 fn damage_stops_the_worker(rt: HostRuntime) -> Result<(), Fail> {
-    for case in stopping_cases() {
-        let played = played(rt.alloc(), &case)?;
-        let name = case.name;
-        assert_eq!(rt; played.status, 0, "{name}");
-        assert_eq!(rt; played.written.as_slice(), case.text.as_bytes(), "{name}");
-    }
-    Ok(())
+    expect_texts(&rt, rt.alloc(), &stopping_cases())
 }
 
 #[test]
 fn odd_guests_are_served_as_their_bytes_say(rt: HostRuntime) -> Result<(), Fail> {
-    for case in odd_cases() {
-        let played = played(rt.alloc(), &case)?;
-        let name = case.name;
-        assert_eq!(rt; played.status, 0, "{name}");
-        assert_eq!(rt; played.written.as_slice(), case.text.as_bytes(), "{name}");
-    }
-    Ok(())
+    expect_texts(&rt, rt.alloc(), &odd_cases())
 }

@@ -1,6 +1,7 @@
 //! A script played through the whole program, over streams in memory.
 
 use std::alloc::Global;
+use std::process::Abort;
 use vub_base::{Bytes, OutOfMemory};
 use vub_share::{Finished, MemSink, MemSource, Sink, Source, run_script};
 
@@ -53,6 +54,13 @@ fn finished<S: Source, K: Sink>(
     sink: &mut K,
 ) -> Finished {
     run_script(alloc, words, source, sink)
+}
+
+/// The play has ended with this status, this was written, and a run was handed back exactly at 0 and 5.
+pub fn expect(rt: &impl Abort, name: &str, played: &Played, status: u8, written: &str) {
+    assert_eq!(rt; played.status, status, "{name}");
+    assert_eq!(rt; played.has_run, status == 0 || status == 5, "{name}");
+    assert_eq!(rt; played.written.as_slice(), written.as_bytes(), "{name}");
 }
 
 /// Plays the input with these words.

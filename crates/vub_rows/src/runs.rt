@@ -1,13 +1,14 @@
 //! Scripts whose run prints the text that is said of them.
 
 use crate::base::{Case, base, script_of};
-use crate::playing::{Played, play, sound_streams};
+use crate::playing::{Played, expect, play, sound_streams};
 use std::alloc::Global;
+use std::process::Abort;
 use std::test::Fail;
 use vub_base::OutOfMemory;
 
 /// Plays the case's script without a fault.
-pub fn played(alloc: Global, case: &Case) -> Result<Played, OutOfMemory> {
+fn played(alloc: Global, case: &Case) -> Result<Played, OutOfMemory> {
     let script = script_of(alloc, case)?;
     let words: Vec<String> = Vec::new(alloc);
     play(
@@ -16,6 +17,15 @@ pub fn played(alloc: Global, case: &Case) -> Result<Played, OutOfMemory> {
         script.into_bytes(),
         &sound_streams(),
     )
+}
+
+/// Each case has a run and prints its text.
+pub fn expect_texts(rt: &impl Abort, alloc: Global, cases: &[Case]) -> Result<(), Fail> {
+    for case in cases {
+        let played = played(alloc, case)?;
+        expect(rt, case.name, &played, 0, case.text);
+    }
+    Ok(())
 }
 
 fn plain_cases() -> [Case; 6] {
@@ -76,11 +86,5 @@ write 0 16384 68656c6c6f
 
 #[test]
 fn scripts_print_their_runs(rt: HostRuntime) -> Result<(), Fail> {
-    for case in plain_cases() {
-        let played = played(rt.alloc(), &case)?;
-        let name = case.name;
-        assert_eq!(rt; played.status, 0, "{name}");
-        assert_eq!(rt; played.written.as_slice(), case.text.as_bytes(), "{name}");
-    }
-    Ok(())
+    expect_texts(&rt, rt.alloc(), &plain_cases())
 }
