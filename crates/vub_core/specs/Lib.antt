@@ -1,4 +1,6 @@
+pub mod Asked
 pub mod Flags
+pub mod ForWiring
 pub mod Hosts
 pub mod Machine
 pub mod Opened

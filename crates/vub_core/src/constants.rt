@@ -1,7 +1,7 @@
 //! What a device never changes.
 ghost use Rattle.std.specs.Prelude.{◌≡◌, ℕ, List, Option, map, IfOk};
 ghost use Rattle.std.specs.List.{range_with_len};
-ghost use Rattle.vub_model.specs.Constants.{constants_of};
+ghost use Rattle.vub_core.specs.Asked.{constants_by};
 
 use std::alloc::Global;
 use vub_base::{Listed, OutOfMemory};
@@ -30,7 +30,7 @@ pub(crate) fn read_constants<D: VhostUserBackendMut>(
     alloc: Global,
     device: &D,
 ) -> Result<Constants, OutOfMemory>
-    ensures { IfOk result (λ c. c ≡ constants_of (D.queue_count device.now) (D.greatest_size device.now) (D.offered device.now) (D.protocol_offered device.now) (D.masks device.now) (D.exit_of device.now)) }
+    ensures { IfOk result (λ c. c ≡ constants_by D.VhostUserBackendMut device.now) }
 {
     let masks = device.queues_per_thread(alloc)?;
     let exits = exits_of(alloc, device, masks.len())?;

@@ -1,8 +1,7 @@
 ghost use Rattle.std.specs.Prelude.{◌≡◌, ◌<◌, ◌+◌, ◌^◌, length, IfOk, IfErr};
-ghost use Rattle.vub_model.specs.Constants.{constants_of};
 ghost use Rattle.vub_model.specs.Opening.{opening, wiring_of};
-ghost use Rattle.vub_model.specs.Service.{meaning};
 ghost use Rattle.vub_model.specs.ValidSetup.{IsValid};
+ghost use Rattle.vub_core.specs.Asked.{constants_by, meaning_by};
 ghost use Rattle.vub_core.specs.Hosts.{NeverFails};
 ghost use Rattle.vub_core.specs.Machine.{world_of};
 ghost use Rattle.vub_core.specs.Outcome.{IsPlayed, IsRefused};
@@ -35,8 +34,10 @@ fn play_opened<V: Service>(
     requires sound { NeverFails machine.store.host }
     requires valid { IsValid constants.now setup.now }
     requires numbers { length setup.now.objects + length constants.now.masks < 2 ^ 32 }
-    ensures played { IfOk result (IsPlayed (meaning V.reply_of V.after) constants.now setup.now schedule.now service.old service.new) }
-    ensures refused { IfErr result (IsRefused (meaning V.reply_of V.after) constants.now setup.now schedule.now service.old service.new) }
+    ensures played { IfOk result
+        (IsPlayed (meaning_by V.Service) constants.now setup.now schedule.now service.old service.new) }
+    ensures refused { IfErr result
+        (IsRefused (meaning_by V.Service) constants.now setup.now schedule.now service.old service.new) }
 {
     if schedule.len() >= MOST_TURNS {
         return Err(NO_MEMORY);
@@ -92,8 +93,12 @@ pub fn drive<D: VhostUserBackendMut, V: Service>(
     service: &mut V,
     schedule: &[u32],
 ) -> Result<Run, DriveFault>
-    ensures played { IfOk result (IsPlayed (meaning V.reply_of V.after) (constants_of (D.queue_count device.old) (D.greatest_size device.old) (D.offered device.old) (D.protocol_offered device.old) (D.masks device.old) (D.exit_of device.old)) setup.now schedule.now service.old service.new) }
-    ensures refused { IfErr result (IsRefused (meaning V.reply_of V.after) (constants_of (D.queue_count device.old) (D.greatest_size device.old) (D.offered device.old) (D.protocol_offered device.old) (D.masks device.old) (D.exit_of device.old)) setup.now schedule.now service.old service.new) }
+    ensures played { IfOk result
+        (IsPlayed (meaning_by V.Service) (constants_by D.VhostUserBackendMut device.old) setup.now schedule.now
+        service.old service.new) }
+    ensures refused { IfErr result
+        (IsRefused (meaning_by V.Service) (constants_by D.VhostUserBackendMut device.old) setup.now schedule.now
+        service.old service.new) }
     ensures device { device.new ≡ device.old }
 {
     let constants = match read_constants(alloc, &*device) {

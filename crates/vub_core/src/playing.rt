@@ -1,8 +1,8 @@
 //! A schedule, one turn after the other.
 ghost use Rattle.std.specs.Prelude.{◌≡◌, ℕ, [], length, IfOk, OnOk, OnErr};
-ghost use Rattle.vub_model.specs.Service.{meaning};
 ghost use Rattle.vub_model.specs.RunOf.{Turn, IsLeast, party_of};
-ghost use Rattle.vub_model.specs.Wiring.{Wiring};
+ghost use Rattle.vub_core.specs.Asked.{meaning_by};
+ghost use Rattle.vub_core.specs.ForWiring.{ForWiring};
 ghost use Rattle.vub_core.specs.Hosts.{NeverFails};
 ghost use Rattle.vub_core.specs.Machine.{world_of};
 ghost use Rattle.vub_core.specs.Played.{HasPlayed, WasCutShort};
@@ -28,12 +28,15 @@ fn turn<V: Service>(
     party: u32,
 ) -> Result<Label, OutOfMemory>
     requires { NeverFails machine.old.store.host }
-    ensures turn { (g : Wiring) → AreHandlers g 0 machine.old.workers.items → IfOk result (λ l. Turn (meaning V.reply_of V.after) (world_of g guest.now machine.old service.old) (party_of party) l (world_of g guest.now machine.new service.new)) }
-    ensures least { (g : Wiring) → AreHandlers g 0 machine.old.workers.items → IfOk result (λ l. IsLeast (world_of g guest.now machine.old service.old) (party_of party) l) }
-    ensures workers { (g : Wiring) → AreHandlers g 0 machine.old.workers.items → AreHandlers g 0 machine.new.workers.items }
+    ensures turn { ForWiring machine.old (λ g. IfOk result (λ l. Turn (meaning_by V.Service)
+        (world_of g guest.now machine.old service.old) (party_of party) l
+        (world_of g guest.now machine.new service.new))) }
+    ensures least { ForWiring machine.old (λ g. IfOk result (λ l.
+        IsLeast (world_of g guest.now machine.old service.old) (party_of party) l)) }
+    ensures workers { ForWiring machine.old (λ g. AreHandlers g 0 machine.new.workers.items) }
     ensures count { length machine.new.workers.items ≡ length machine.old.workers.items }
     ensures sound { NeverFails machine.new.store.host }
-    ensures err { (g : Wiring) → AreHandlers g 0 machine.old.workers.items → OnErr result (service.new ≡ service.old) }
+    ensures err { ForWiring machine.old (λ g. OnErr result (service.new ≡ service.old)) }
 {
     match party {
         0 => Ok(guest_turn(machine, &*service, guest)),
@@ -58,9 +61,13 @@ pub(crate) fn play<V: Service>(
 ) -> Result<(), OutOfMemory>
     requires sound { NeverFails machine.old.store.host }
     requires none { labels.old.items ≡ [] }
-    ensures played { (g : Wiring) → AreHandlers g 0 machine.old.workers.items → OnOk result (HasPlayed (meaning V.reply_of V.after) schedule.now labels.new.items (world_of g guest.now machine.old service.old) (world_of g guest.now machine.new service.new)) }
-    ensures cut { (g : Wiring) → AreHandlers g 0 machine.old.workers.items → OnErr result (WasCutShort (meaning V.reply_of V.after) schedule.now labels.new.items (world_of g guest.now machine.old service.old) service.new) }
-    ensures workers { (g : Wiring) → AreHandlers g 0 machine.old.workers.items → AreHandlers g 0 machine.new.workers.items }
+    ensures played { ForWiring machine.old (λ g. OnOk result
+        (HasPlayed (meaning_by V.Service) schedule.now labels.new.items
+        (world_of g guest.now machine.old service.old) (world_of g guest.now machine.new service.new))) }
+    ensures cut { ForWiring machine.old (λ g. OnErr result
+        (WasCutShort (meaning_by V.Service) schedule.now labels.new.items
+        (world_of g guest.now machine.old service.old) service.new)) }
+    ensures workers { ForWiring machine.old (λ g. AreHandlers g 0 machine.new.workers.items) }
     ensures count { length machine.new.workers.items ≡ length machine.old.workers.items }
     ensures sound { NeverFails machine.new.store.host }
 {

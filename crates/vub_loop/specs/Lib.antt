@@ -5,3 +5,4 @@ pub mod Plays
 pub mod Polling
 pub mod Said
 pub mod Sound
+pub mod Stepping

@@ -1,16 +1,15 @@
-ghost use Rattle.std.specs.Prelude.{◌≡◌, ◌≤◌, ℕ, IfOk, IfErr, IsOk, OnErr};
+ghost use Rattle.std.specs.Prelude.{◌≡◌, ℕ, IfOk, IsOk};
 ghost use Rattle.std.specs.Option.{ForSome};
-ghost use Rattle.vub_base.specs.Causes.{Rose};
-ghost use Rattle.vub_base.specs.Told.{Told};
-ghost use Rattle.vub_model.specs.RunOf.{IsLeastPoll};
 ghost use Rattle.vub_model.specs.Service.{meaning};
 ghost use Rattle.vub_model.specs.Wiring.{Wiring};
 ghost use Rattle.vub_model.specs.Work.{after_event};
-ghost use Rattle.vub_loop.specs.Faults.{Reads, Steps, PollSteps, TurnSteps, StopsByFault, IsHostStop, read_error};
+ghost use Rattle.vub_vring.specs.PartsState.{HasFailed, IsUntouched};
+ghost use Rattle.vub_loop.specs.Faults.{IsHostStop, read_error};
 ghost use Rattle.vub_loop.specs.Finished.{finished_by};
-ghost use Rattle.vub_loop.specs.Handler.{phase_of, IsHandler, SameWorker, new_handler};
-ghost use Rattle.vub_loop.specs.Polling.{PollingSteps, polling_label};
+ghost use Rattle.vub_loop.specs.Handler.{phase_of, IsHandler, new_handler};
+ghost use Rattle.vub_loop.specs.Polling.{polling_label};
 ghost use Rattle.vub_loop.specs.Sound.{IsSound};
+ghost use Rattle.vub_loop.specs.Stepping.{StepsBy, PollsBy, PollingBy, TurnsBy, PollsLeastBy, ReadsBy, StopsBy, StepFrame, ReadFrame};
 
 use crate::finished::Finished;
 use crate::mask::queues_of_mask;
@@ -77,16 +76,13 @@ impl VringEpollHandler {
 
     /// Polls an idle worker's interest list.
     fn poll<P: Parts>(&mut self, alloc: Global, parts: &mut P) -> Result<Polling, VringEpollError>
-        ensures row { (g : Wiring) (worker : ℕ) → IsHandler g worker self.old → IfOk result (λ polled. Told (P.held parts.old) (P.held parts.new) (PollingSteps (P.never_fails parts.old) (Rose (P.fault_count parts.old) (P.fault_count parts.new)) (meaning P.Service.reply_of P.Service.after) g worker polled (phase_of self.old) (phase_of self.new))) }
-        ensures least { (g : Wiring) (worker : ℕ) → IsHandler g worker self.old → IfOk result (λ polled. Told (P.held parts.old) (P.held parts.new) (λ old new. IsLeastPoll g worker old (polling_label polled))) }
+        ensures row { PollingBy (meaning P.Service.reply_of P.Service.after) result
+            self.old self.new (P.state parts.old) (P.state parts.new) }
+        ensures least { PollsLeastBy polling_label result self.old (P.state parts.old) (P.state parts.new) }
         ensures finished { IfOk result (λ polled. self.new.finished ≡ None) }
-        ensures same { SameWorker self.old self.new }
-        ensures stops { StopsByFault (phase_of self.old) (phase_of self.new) (Rose (P.fault_count parts.old) (P.fault_count parts.new)) }
+        ensures stops { StopsBy self.old self.new (P.state parts.old) (P.state parts.new) }
         ensures ok { IsOk result }
-        ensures later { P.fault_count parts.old ≤ P.fault_count parts.new }
-        ensures still { P.never_fails parts.old → P.never_fails parts.new }
-        ensures loan { P.loan parts.new ≡ P.loan parts.old }
-        ensures constants { P.told_constants parts.new ≡ P.told_constants parts.old }
+        ensures frame { StepFrame self.old self.new (P.state parts.old) (P.state parts.new) result }
     {
         match self.standing.phase() {
             Phase::Idle => {}
@@ -123,15 +119,12 @@ impl VringEpollHandler {
         alloc: Global,
         parts: &mut P,
     ) -> Result<bool, VringEpollError>
-        ensures row { (g : Wiring) (worker : ℕ) → IsHandler g worker self.old → IfOk result (λ played. Told (P.held parts.old) (P.held parts.new) (PollSteps (P.never_fails parts.old) (Rose (P.fault_count parts.old) (P.fault_count parts.new)) (meaning P.Service.reply_of P.Service.after) g worker played (phase_of self.old) (phase_of self.new))) }
+        ensures row { PollsBy (meaning P.Service.reply_of P.Service.after) result
+            self.old self.new (P.state parts.old) (P.state parts.new) }
         ensures finished { IfOk result (λ played. self.new.finished ≡ None) }
-        ensures same { SameWorker self.old self.new }
-        ensures stops { StopsByFault (phase_of self.old) (phase_of self.new) (Rose (P.fault_count parts.old) (P.fault_count parts.new)) }
+        ensures stops { StopsBy self.old self.new (P.state parts.old) (P.state parts.new) }
         ensures ok { IsOk result }
-        ensures later { P.fault_count parts.old ≤ P.fault_count parts.new }
-        ensures still { P.never_fails parts.old → P.never_fails parts.new }
-        ensures loan { P.loan parts.new ≡ P.loan parts.old }
-        ensures constants { P.told_constants parts.new ≡ P.told_constants parts.old }
+        ensures frame { StepFrame self.old self.new (P.state parts.old) (P.state parts.new) result }
     {
         match self.poll(alloc, parts)? {
             Polling::Nothing => Ok(false),
@@ -148,15 +141,12 @@ impl VringEpollHandler {
         object: u32,
         token: u64,
     ) -> Result<Phase, VringEpollError>
-        ensures row { (g : Wiring) (worker : ℕ) → IsHandler g worker self.now → IfOk result (λ phase. Told (P.held parts.old) (P.held parts.new) (λ old new. Reads (P.never_fails parts.old) (Rose (P.fault_count parts.old) (P.fault_count parts.new)) (after_event g worker old object token) (read_error g worker token) phase old new)) }
+        ensures row { (g : Wiring) (worker : ℕ) → IsHandler g worker self.now
+            → ReadsBy (P.state parts.old) (P.state parts.new) result
+            (λ held. after_event g worker held object token) (read_error g worker token) }
         ensures sound { IfOk result IsSound }
-        ensures stops { IfOk result (λ phase. IsHostStop phase → Rose (P.fault_count parts.old) (P.fault_count parts.new)) }
-        ensures error { IfErr result (λ e. e ≡ VringEpollError.OutOfMemory) }
-        ensures held { OnErr result (P.held parts.new ≡ P.held parts.old) }
-        ensures later { P.fault_count parts.old ≤ P.fault_count parts.new }
-        ensures still { P.never_fails parts.old → P.never_fails parts.new }
-        ensures loan { P.loan parts.new ≡ P.loan parts.old }
-        ensures constants { P.told_constants parts.new ≡ P.told_constants parts.old }
+        ensures stops { IfOk result (λ phase. IsHostStop phase → HasFailed (P.state parts.old) (P.state parts.new)) }
+        ensures frame { ReadFrame (P.state parts.old) (P.state parts.new) result }
     {
         if token < self.queues.len() as u64 {
             let queue = self.queues.as_slice()[token as usize];
@@ -180,17 +170,11 @@ impl VringEpollHandler {
         alloc: Global,
         parts: &mut P,
     ) -> Result<bool, VringEpollError>
-        ensures row { (g : Wiring) (worker : ℕ) → IsHandler g worker self.old → IfOk result (λ played. Told (P.held parts.old) (P.held parts.new) (Steps (P.never_fails parts.old) (Rose (P.fault_count parts.old) (P.fault_count parts.new)) (meaning P.Service.reply_of P.Service.after) g worker Label.Event played (phase_of self.old) (phase_of self.new))) }
+        ensures row { StepsBy (meaning P.Service.reply_of P.Service.after) Label.Event result
+            self.old self.new (P.state parts.old) (P.state parts.new) }
         ensures finished { IfOk result (λ played. self.new.finished ≡ None) }
-        ensures same { SameWorker self.old self.new }
-        ensures stops { StopsByFault (phase_of self.old) (phase_of self.new) (Rose (P.fault_count parts.old) (P.fault_count parts.new)) }
-        ensures error { IfErr result (λ e. e ≡ VringEpollError.OutOfMemory) }
-        ensures err { OnErr result (self.new ≡ self.old) }
-        ensures held { OnErr result (P.held parts.new ≡ P.held parts.old) }
-        ensures later { P.fault_count parts.old ≤ P.fault_count parts.new }
-        ensures still { P.never_fails parts.old → P.never_fails parts.new }
-        ensures loan { P.loan parts.new ≡ P.loan parts.old }
-        ensures constants { P.told_constants parts.new ≡ P.told_constants parts.old }
+        ensures stops { StopsBy self.old self.new (P.state parts.old) (P.state parts.new) }
+        ensures frame { StepFrame self.old self.new (P.state parts.old) (P.state parts.new) result }
     {
         match self.standing.phase() {
             Phase::Polled { object, token } => {
@@ -211,15 +195,12 @@ impl VringEpollHandler {
         alloc: Global,
         parts: &mut P,
     ) -> Result<bool, VringEpollError>
-        ensures row { (g : Wiring) (worker : ℕ) → IsHandler g worker self.old → IfOk result (λ played. Told (P.held parts.old) (P.held parts.new) (Steps (P.never_fails parts.old) (Rose (P.fault_count parts.old) (P.fault_count parts.new)) (meaning P.Service.reply_of P.Service.after) g worker Label.Sweep played (phase_of self.old) (phase_of self.new))) }
+        ensures row { StepsBy (meaning P.Service.reply_of P.Service.after) Label.Sweep result
+            self.old self.new (P.state parts.old) (P.state parts.new) }
         ensures finished { IfOk result (λ played. self.new.finished ≡ None) }
-        ensures same { SameWorker self.old self.new }
-        ensures stops { StopsByFault (phase_of self.old) (phase_of self.new) (Rose (P.fault_count parts.old) (P.fault_count parts.new)) }
+        ensures stops { StopsBy self.old self.new (P.state parts.old) (P.state parts.new) }
         ensures ok { IsOk result }
-        ensures later { P.fault_count parts.old ≤ P.fault_count parts.new }
-        ensures still { P.never_fails parts.old → P.never_fails parts.new }
-        ensures loan { P.loan parts.new ≡ P.loan parts.old }
-        ensures constants { P.told_constants parts.new ≡ P.told_constants parts.old }
+        ensures frame { StepFrame self.old self.new (P.state parts.old) (P.state parts.new) result }
     {
         match self.standing.phase() {
             Phase::Sweep => {}
@@ -252,17 +233,11 @@ impl VringEpollHandler {
         alloc: Global,
         parts: &mut P,
     ) -> Result<bool, VringEpollError>
-        ensures row { (g : Wiring) (worker : ℕ) → IsHandler g worker self.old → IfOk result (λ played. Told (P.held parts.old) (P.held parts.new) (Steps (P.never_fails parts.old) (Rose (P.fault_count parts.old) (P.fault_count parts.new)) (meaning P.Service.reply_of P.Service.after) g worker Label.Take played (phase_of self.old) (phase_of self.new))) }
+        ensures row { StepsBy (meaning P.Service.reply_of P.Service.after) Label.Take result
+            self.old self.new (P.state parts.old) (P.state parts.new) }
         ensures finished { IfOk result (λ played. self.new.finished ≡ None) }
-        ensures same { SameWorker self.old self.new }
-        ensures stops { StopsByFault (phase_of self.old) (phase_of self.new) (Rose (P.fault_count parts.old) (P.fault_count parts.new)) }
-        ensures error { IfErr result (λ e. e ≡ VringEpollError.OutOfMemory) }
-        ensures err { OnErr result (self.new ≡ self.old) }
-        ensures held { OnErr result (P.held parts.new ≡ P.held parts.old) }
-        ensures later { P.fault_count parts.old ≤ P.fault_count parts.new }
-        ensures still { P.never_fails parts.old → P.never_fails parts.new }
-        ensures loan { P.loan parts.new ≡ P.loan parts.old }
-        ensures constants { P.told_constants parts.new ≡ P.told_constants parts.old }
+        ensures stops { StopsBy self.old self.new (P.state parts.old) (P.state parts.new) }
+        ensures frame { StepFrame self.old self.new (P.state parts.old) (P.state parts.new) result }
     {
         match self.standing.take() {
             Phase::Serving(queues) => match queues.first() {
@@ -317,17 +292,11 @@ impl VringEpollHandler {
         alloc: Global,
         parts: &mut P,
     ) -> Result<bool, VringEpollError>
-        ensures row { (g : Wiring) (worker : ℕ) → IsHandler g worker self.old → IfOk result (λ played. Told (P.held parts.old) (P.held parts.new) (Steps (P.never_fails parts.old) (Rose (P.fault_count parts.old) (P.fault_count parts.new)) (meaning P.Service.reply_of P.Service.after) g worker Label.Serve played (phase_of self.old) (phase_of self.new))) }
+        ensures row { StepsBy (meaning P.Service.reply_of P.Service.after) Label.Serve result
+            self.old self.new (P.state parts.old) (P.state parts.new) }
         ensures finished { IfOk result (λ played. self.new.finished ≡ None) }
-        ensures same { SameWorker self.old self.new }
-        ensures stops { StopsByFault (phase_of self.old) (phase_of self.new) (Rose (P.fault_count parts.old) (P.fault_count parts.new)) }
-        ensures error { IfErr result (λ e. e ≡ VringEpollError.OutOfMemory) }
-        ensures err { OnErr result (self.new ≡ self.old) }
-        ensures held { OnErr result (P.held parts.new ≡ P.held parts.old) }
-        ensures later { P.fault_count parts.old ≤ P.fault_count parts.new }
-        ensures still { P.never_fails parts.old → P.never_fails parts.new }
-        ensures loan { P.loan parts.new ≡ P.loan parts.old }
-        ensures constants { P.told_constants parts.new ≡ P.told_constants parts.old }
+        ensures stops { StopsBy self.old self.new (P.state parts.old) (P.state parts.new) }
+        ensures frame { StepFrame self.old self.new (P.state parts.old) (P.state parts.new) result }
     {
         match self.standing.take() {
             Phase::Taken(entry, queues) => match parts.service(alloc, &entry) {
@@ -357,17 +326,12 @@ impl VringEpollHandler {
         alloc: Global,
         parts: &mut P,
     ) -> Result<bool, VringEpollError>
-        ensures row { (g : Wiring) (worker : ℕ) → IsHandler g worker self.old → IfOk result (λ played. Told (P.held parts.old) (P.held parts.new) (Steps (P.never_fails parts.old) (Rose (P.fault_count parts.old) (P.fault_count parts.new)) (meaning P.Service.reply_of P.Service.after) g worker Label.Put played (phase_of self.old) (phase_of self.new))) }
-        ensures finished { IfOk result (λ played. self.new.finished ≡ finished_by Label.Put (phase_of self.old) (phase_of self.new)) }
-        ensures same { SameWorker self.old self.new }
-        ensures stops { StopsByFault (phase_of self.old) (phase_of self.new) (Rose (P.fault_count parts.old) (P.fault_count parts.new)) }
-        ensures error { IfErr result (λ e. e ≡ VringEpollError.OutOfMemory) }
-        ensures err { OnErr result (self.new ≡ self.old) }
-        ensures held { OnErr result (P.held parts.new ≡ P.held parts.old) }
-        ensures later { P.fault_count parts.old ≤ P.fault_count parts.new }
-        ensures still { P.never_fails parts.old → P.never_fails parts.new }
-        ensures loan { P.loan parts.new ≡ P.loan parts.old }
-        ensures constants { P.told_constants parts.new ≡ P.told_constants parts.old }
+        ensures row { StepsBy (meaning P.Service.reply_of P.Service.after) Label.Put result
+            self.old self.new (P.state parts.old) (P.state parts.new) }
+        ensures finished { IfOk result (λ played.
+            self.new.finished ≡ finished_by Label.Put (phase_of self.old) (phase_of self.new)) }
+        ensures stops { StopsBy self.old self.new (P.state parts.old) (P.state parts.new) }
+        ensures frame { StepFrame self.old self.new (P.state parts.old) (P.state parts.new) result }
     {
         match self.standing.take() {
             Phase::Served(entry, reply, queues) => {
@@ -399,18 +363,13 @@ impl VringEpollHandler {
     /// # Errors
     /// Want of memory leaves the worker and the parts as they were.
     pub fn turn<P: Parts>(&mut self, alloc: Global, parts: &mut P) -> Result<Label, VringEpollError>
-        ensures row { (g : Wiring) (worker : ℕ) → IsHandler g worker self.old → IfOk result (λ label. Told (P.held parts.old) (P.held parts.new) (TurnSteps (P.never_fails parts.old) (Rose (P.fault_count parts.old) (P.fault_count parts.new)) (meaning P.Service.reply_of P.Service.after) g worker label (phase_of self.old) (phase_of self.new))) }
-        ensures least { (g : Wiring) (worker : ℕ) → IsHandler g worker self.old → IfOk result (λ label. Told (P.held parts.old) (P.held parts.new) (λ old new. IsLeastPoll g worker old label)) }
-        ensures finished { IfOk result (λ label. self.new.finished ≡ finished_by label (phase_of self.old) (phase_of self.new)) }
-        ensures same { SameWorker self.old self.new }
-        ensures stops { StopsByFault (phase_of self.old) (phase_of self.new) (Rose (P.fault_count parts.old) (P.fault_count parts.new)) }
-        ensures error { IfErr result (λ e. e ≡ VringEpollError.OutOfMemory) }
-        ensures err { OnErr result (self.new ≡ self.old) }
-        ensures held { OnErr result (P.held parts.new ≡ P.held parts.old) }
-        ensures later { P.fault_count parts.old ≤ P.fault_count parts.new }
-        ensures still { P.never_fails parts.old → P.never_fails parts.new }
-        ensures loan { P.loan parts.new ≡ P.loan parts.old }
-        ensures constants { P.told_constants parts.new ≡ P.told_constants parts.old }
+        ensures row { TurnsBy (meaning P.Service.reply_of P.Service.after) result
+            self.old self.new (P.state parts.old) (P.state parts.new) }
+        ensures least { PollsLeastBy (λ l. l) result self.old (P.state parts.old) (P.state parts.new) }
+        ensures finished { IfOk result (λ label.
+            self.new.finished ≡ finished_by label (phase_of self.old) (phase_of self.new)) }
+        ensures stops { StopsBy self.old self.new (P.state parts.old) (P.state parts.new) }
+        ensures frame { StepFrame self.old self.new (P.state parts.old) (P.state parts.new) result }
     {
         match self.standing.phase() {
             Phase::Idle => match self.poll(alloc, parts)? {
@@ -483,12 +442,9 @@ impl VringEpollHandler {
         parts: &mut P,
         opened: Opened,
     ) -> Result<VringEpollHandler, OutOfMemory>
-        ensures made { IfOk result (λ h. ForSome (P.told_constants parts.old) (λ told. h ≡ new_handler told opened)) }
-        ensures held { P.held parts.new ≡ P.held parts.old }
-        ensures faults { P.fault_count parts.new ≡ P.fault_count parts.old }
-        ensures still { P.never_fails parts.old → P.never_fails parts.new }
-        ensures loan { P.loan parts.new ≡ P.loan parts.old }
-        ensures constants { P.told_constants parts.new ≡ P.told_constants parts.old }
+        ensures made { IfOk result (λ h. ForSome (P.state parts.old).constants
+            (λ told. h ≡ new_handler told opened)) }
+        ensures frame { IsUntouched (P.state parts.old) (P.state parts.new) }
     {
         let constants = parts.constants(alloc)?;
         VringEpollHandler::from_constants(alloc, &constants, opened)

@@ -1,11 +1,11 @@
-ghost use Rattle.std.specs.Prelude.{◌≡◌, ◌≤◌, if◌then◌else◌, is_some, IfOk, IfErr, OnErr};
-ghost use Rattle.vub_base.specs.Causes.{Rose};
-ghost use Rattle.vub_base.specs.Told.{Told};
+ghost use Rattle.std.specs.Prelude.{◌≡◌, if◌then◌else◌, is_some, IfOk};
 ghost use Rattle.vub_model.specs.declared.cause.StopCause.TheVariants.{Exit};
 ghost use Rattle.vub_model.specs.declared.phase.Phase.TheVariants.{Idle, Stopped};
 ghost use Rattle.vub_model.specs.Work.{after_kick, after_bell, after_listener};
-ghost use Rattle.vub_loop.specs.Faults.{Reads, IsHostStop};
+ghost use Rattle.vub_vring.specs.PartsState.{HasFailed};
+ghost use Rattle.vub_loop.specs.Faults.{IsHostStop};
 ghost use Rattle.vub_loop.specs.Sound.{IsSound};
+ghost use Rattle.vub_loop.specs.Stepping.{ReadsBy, ReadFrame};
 
 use crate::said::{was_counted, was_member};
 use std::alloc::Global;
@@ -22,15 +22,11 @@ pub(crate) fn kicked<P: Parts>(
     queue: u32,
     object: u32,
 ) -> Result<Phase, VringEpollError>
-    ensures row { IfOk result (λ phase. Told (P.held parts.old) (P.held parts.new) (λ old new. Reads (P.never_fails parts.old) (Rose (P.fault_count parts.old) (P.fault_count parts.new)) (after_kick old queue object) VringEpollError.HandleEventReadKick phase old new)) }
+    ensures row { ReadsBy (P.state parts.old) (P.state parts.new) result
+        (λ held. after_kick held queue object) VringEpollError.HandleEventReadKick }
     ensures sound { IfOk result IsSound }
-    ensures stops { IfOk result (λ phase. IsHostStop phase → Rose (P.fault_count parts.old) (P.fault_count parts.new)) }
-    ensures error { IfErr result (λ e. e ≡ VringEpollError.OutOfMemory) }
-    ensures held { OnErr result (P.held parts.new ≡ P.held parts.old) }
-    ensures later { P.fault_count parts.old ≤ P.fault_count parts.new }
-    ensures still { P.never_fails parts.old → P.never_fails parts.new }
-    ensures loan { P.loan parts.new ≡ P.loan parts.old }
-    ensures constants { P.told_constants parts.new ≡ P.told_constants parts.old }
+    ensures stops { IfOk result (λ phase. IsHostStop phase → HasFailed (P.state parts.old) (P.state parts.new)) }
+    ensures frame { ReadFrame (P.state parts.old) (P.state parts.new) result }
 {
     let Ok(one) = Queues::one(alloc, queue) else {
         return Err(VringEpollError::OutOfMemory);
@@ -65,15 +61,11 @@ pub(crate) fn rung<P: Parts>(
     parts: &mut P,
     opened: Opened,
 ) -> Result<Phase, VringEpollError>
-    ensures row { IfOk result (λ phase. Told (P.held parts.old) (P.held parts.new) (λ old new. Reads (P.never_fails parts.old) (Rose (P.fault_count parts.old) (P.fault_count parts.new)) (after_bell old opened.bell opened.exit) VringEpollError.HandleVringEnabledEventConsume phase old new)) }
+    ensures row { ReadsBy (P.state parts.old) (P.state parts.new) result
+        (λ held. after_bell held opened.bell opened.exit) VringEpollError.HandleVringEnabledEventConsume }
     ensures sound { IfOk result IsSound }
-    ensures stops { IfOk result (λ phase. IsHostStop phase → Rose (P.fault_count parts.old) (P.fault_count parts.new)) }
-    ensures error { IfErr result (λ e. e ≡ VringEpollError.OutOfMemory) }
-    ensures held { OnErr result (P.held parts.new ≡ P.held parts.old) }
-    ensures later { P.fault_count parts.old ≤ P.fault_count parts.new }
-    ensures still { P.never_fails parts.old → P.never_fails parts.new }
-    ensures loan { P.loan parts.new ≡ P.loan parts.old }
-    ensures constants { P.told_constants parts.new ≡ P.told_constants parts.old }
+    ensures stops { IfOk result (λ phase. IsHostStop phase → HasFailed (P.state parts.old) (P.state parts.new)) }
+    ensures frame { ReadFrame (P.state parts.old) (P.state parts.new) result }
 {
     match parts.host(alloc, HostOp::Consume(opened.bell)) {
         Ok(said) => {
@@ -101,15 +93,11 @@ pub(crate) fn heard<P: Parts>(
     object: u32,
     token: u64,
 ) -> Result<Phase, VringEpollError>
-    ensures row { IfOk result (λ phase. Told (P.held parts.old) (P.held parts.new) (λ old new. Reads (P.never_fails parts.old) (Rose (P.fault_count parts.old) (P.fault_count parts.new)) (after_listener old list object token) VringEpollError.HandleEventReadKick phase old new)) }
+    ensures row { ReadsBy (P.state parts.old) (P.state parts.new) result
+        (λ held. after_listener held list object token) VringEpollError.HandleEventReadKick }
     ensures sound { IfOk result IsSound }
-    ensures stops { IfOk result (λ phase. IsHostStop phase → Rose (P.fault_count parts.old) (P.fault_count parts.new)) }
-    ensures error { IfErr result (λ e. e ≡ VringEpollError.OutOfMemory) }
-    ensures held { OnErr result (P.held parts.new ≡ P.held parts.old) }
-    ensures later { P.fault_count parts.old ≤ P.fault_count parts.new }
-    ensures still { P.never_fails parts.old → P.never_fails parts.new }
-    ensures loan { P.loan parts.new ≡ P.loan parts.old }
-    ensures constants { P.told_constants parts.new ≡ P.told_constants parts.old }
+    ensures stops { IfOk result (λ phase. IsHostStop phase → HasFailed (P.state parts.old) (P.state parts.new)) }
+    ensures frame { ReadFrame (P.state parts.old) (P.state parts.new) result }
 {
     match parts.host(alloc, HostOp::ConsumeAs(list, object, token)) {
         Ok(said) => {

@@ -10,32 +10,46 @@ use Rattle.vub_queue.specs.Take.{guest_taken}
 use Rattle.vub_event.specs.HostTable.{members_at}
 use Rattle.vub_event.specs.InterestList.{member_of}
 use Rattle.vub_model.specs.declared.cause.StopCause.TheVariants.{Exit}
+use Rattle.vub_model.specs.declared.cause.Why.TheVariants as why
+use Rattle.vub_proto.specs.declared.device_said.DeviceSaid.{DeviceSaid}
+use Rattle.vub_proto.specs.declared.device_said.DeviceSaid.TheVariants as outcome
 use Rattle.vub_model.specs.declared.entry.Entry.{Entry}
-use Rattle.vub_model.specs.declared.label.Label.{Label}
-use Rattle.vub_model.specs.declared.label.Label.TheVariants as label
+use Rattle.vub_model.specs.declared.play.Play.{Play}
+use Rattle.vub_model.specs.declared.play.Play.TheVariants as play
 use Rattle.vub_model.specs.declared.phase.Phase.{Phase}
 use Rattle.vub_model.specs.declared.phase.Phase.TheVariants.{Idle, Polled, Sweep, Heard, Serving, Taken, Served, Stopped}
 use Rattle.vub_model.specs.RingRecord.{is_on}
 use Rattle.vub_model.specs.Held.{Held, ring_at, count_at, counter_read, is_ready}
 use Rattle.vub_model.specs.Wiring.{Wiring, opened_at, queues_of}
-use Rattle.vub_model.specs.Work.{Local, MayWork, after_event, after_kick, after_bell, after_listener, after_take, after_took, after_none, is_object, has_token, is_live, looked}
+use Rattle.vub_model.specs.Work.{Local, MayWork, after_event, after_kick, after_bell, after_listener, after_heard, stopped, after_take, after_took, after_none, is_object, has_token, is_live, looked}
+use Rattle.vub_model.specs.declared.cause.Why.{Why}
 
--- a worker's step is one of six
-pub work-cases : {V : Type 0} (g : Wiring) (k : ℕ) (h : Held V) (P : Phase → Label → Type 0)
-    → ((object : ℕ) → is_ready h.table (opened_at g k).list object ≡ true → P Idle (label.Poll object))
-    → ((object token : ℕ) → P (Polled object token) label.Event)
-    → P Sweep label.Sweep
-    → ((queues : List ℕ) → P (Serving queues) label.Take)
-    → ((e : Entry) (queues : List ℕ) → P (Taken e queues) label.Serve)
-    → ((e : Entry) (reply queues : List ℕ) → P (Served e reply queues) label.Put)
-    → (phase : Phase) (l : Label) → MayWork g k h phase l → P phase l
-work-cases g k h P poll event sweep take serve put Idle (label.Poll object) may = poll object may
-work-cases g k h P poll event sweep take serve put (Polled object token) label.Event may = event object token
-work-cases g k h P poll event sweep take serve put Sweep label.Sweep may = sweep
-work-cases g k h P poll event sweep take serve put (Serving queues) label.Take may = take queues
-work-cases g k h P poll event sweep take serve put (Taken e queues) label.Serve may = serve e queues
-work-cases g k h P poll event sweep take serve put (Served e reply queues) label.Put may = put e reply queues
-work-cases g k h P poll event sweep take serve put phase l may = absurd may
+-- a worker's step is one of seven
+pub work-cases : {V : Type 0} (g : Wiring) (k : ℕ) (h : Held V) (P : Phase → Play → Type 0)
+    → ((object : ℕ) → is_ready h.table (opened_at g k).list object ≡ true → P Idle (play.Poll object))
+    → ((object token : ℕ) → P (Polled object token) play.Event)
+    → P Sweep play.Sweep
+    → ((token : ℕ) (said : DeviceSaid) → P (Heard token) (play.Hear said))
+    → ((queues : List ℕ) → P (Serving queues) play.Take)
+    → ((e : Entry) (queues : List ℕ) → P (Taken e queues) play.Serve)
+    → ((e : Entry) (reply queues : List ℕ) → P (Served e reply queues) play.Put)
+    → (phase : Phase) (l : Play) → MayWork g k h phase l → P phase l
+work-cases g k h P poll event sweep hear take serve put Idle (play.Poll object) may = poll object may
+work-cases g k h P poll event sweep hear take serve put (Polled object token) play.Event may = event object token
+work-cases g k h P poll event sweep hear take serve put Sweep play.Sweep may = sweep
+work-cases g k h P poll event sweep hear take serve put (Heard token) (play.Hear said) may = hear token said
+work-cases g k h P poll event sweep hear take serve put (Serving queues) play.Take may = take queues
+work-cases g k h P poll event sweep hear take serve put (Taken e queues) play.Serve may = serve e queues
+work-cases g k h P poll event sweep hear take serve put (Served e reply queues) play.Put may = put e reply queues
+work-cases g k h P poll event sweep hear take serve put phase l may = absurd may
+
+-- the device has handled the event, or refused it
+pub heard-leaf : (P : Phase → Type 0) → P Idle → ((w : Why) → P (stopped w)) → (said : DeviceSaid) → P (after_heard said)
+heard-leaf P idle ends outcome.Done = idle
+heard-leaf P idle ends (outcome.Content bytes) = idle
+heard-leaf P idle ends (outcome.Object object) = idle
+heard-leaf P idle ends (outcome.Number n) = idle
+heard-leaf P idle ends (outcome.Refused n) = ends (why.Device n)
 
 module _ {V : Type 0} (h : Held V) (P : Local V → Type 0) where
   pub kick-leaf : (q object : ℕ)

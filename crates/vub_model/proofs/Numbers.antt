@@ -5,12 +5,12 @@ use Rattle.std.proofs.lemmas.Bool.{cases_eq}
 use Rattle.vub_queue.specs.declared.chain.Chain.{Chain}
 use Rattle.vub_queue.specs.declared.took.Took.TheVariants as took
 use Rattle.vub_model.specs.declared.entry.Entry.{Entry}
-use Rattle.vub_model.specs.declared.label.Label.{Label}
-use Rattle.vub_model.specs.declared.label.Label.TheVariants as label
+use Rattle.vub_model.specs.declared.play.Play.{Play}
+use Rattle.vub_model.specs.declared.play.Play.TheVariants as play
 use Rattle.vub_model.specs.declared.party.Party.{Party}
 use Rattle.vub_model.specs.declared.party.Party.TheVariants as party
 use Rattle.vub_model.specs.declared.phase.Phase.{Phase}
-use Rattle.vub_model.specs.declared.phase.Phase.TheVariants.{Idle, Polled, Sweep, Taken}
+use Rattle.vub_model.specs.declared.phase.Phase.TheVariants.{Idle, Polled, Sweep, Heard, Taken}
 use Rattle.vub_model.specs.declared.records.Take.{Take}
 use Rattle.vub_model.specs.declared.ring_op.RingOp.TheVariants as op
 use Rattle.vub_model.specs.declared.setup.Guest.{Guest}
@@ -20,21 +20,22 @@ use Rattle.vub_model.specs.Held.{Held, ring_at}
 use Rattle.vub_model.specs.Service.{Meaning}
 use Rattle.vub_model.specs.Wiring.{Wiring}
 use Rattle.vub_model.specs.Work.{Local, MayWork, after_work, after_take, after_took, after_put, after_said, called, used, entry_of, looked, put_said}
-use Rattle.vub_model.specs.World.{World, May, after, after_guest, phase_at, take_of, takes_by}
-use Rattle.vub_model.specs.RunOf.{IsRun, party_of}
+use Rattle.vub_model.specs.World.{World, May, after, after_guest, phase_at, take_of, takes_by, after_control}
 use Rattle.vub_model.specs.Headline.{takes_of, numbers, count_up, NumberAt, RingNumbered, Numbered, IsFresh}
 use Rattle.vub_model.proofs.Cases.{work-cases, event-held, take-leaf, none-leaf, said-cases}
-use Rattle.vub_model.proofs.Turns.{turn-cases}
 use Rattle.vub_model.proofs.Live.{looked-live, live-parts, live-taken, serving-takes}
 use Rattle.vub_model.proofs.Flow.{field-kept}
 use Rattle.vub_model.proofs.FlowSteps.{pushed, left_out, on-within}
+use Rattle.vub_model.specs.declared.small.Small.{Small}
+use Rattle.vub_proto.specs.declared.device_said.DeviceSaid.{DeviceSaid}
+use Rattle.vub_model.specs.Control.{MayControl}
 
 -- One epoch
 
 numbers-own : (epoch : ℕ) (takes : List Take) (t : Take) → t.epoch ≡ epoch → numbers epoch (takes ++ t ∷ []) ≡ numbers epoch takes ++ t.number ∷ []
 numbers-own epoch takes t own = ap (map (λ (t : Take). t.number)) (pushed (λ (t : Take). t.epoch) epoch takes t own) ∙ map-append (λ (t : Take). t.number) (filter (λ (t : Take). eqb t.epoch epoch) takes) (t ∷ [])
 
-numbers-other : (epoch : ℕ) (takes : List Take) (t : Take) → (t.epoch ≡ epoch → ⊥) → numbers epoch (takes ++ t ∷ []) ≡ numbers epoch takes
+pub numbers-other : (epoch : ℕ) (takes : List Take) (t : Take) → (t.epoch ≡ epoch → ⊥) → numbers epoch (takes ++ t ∷ []) ≡ numbers epoch takes
 numbers-other epoch takes t other = ap (map (λ (t : Take). t.number)) (left_out (λ (t : Take). t.epoch) epoch takes t other)
 
 -- one more take, with the next number
@@ -64,13 +65,13 @@ AllNumbered rings takes = (q : ℕ) → RingNumbered (slice_index_or rings q clo
 
 module _ {V : Type 0} (g : Wiring) (h : Held V) (takes : List Take) (numbered : AllNumbered h.rings takes) where
   -- what the takes are after a step that ends so
-  abbrev pub After : Label → Local V → Type 0
+  abbrev pub After : Play → Local V → Type 0
   After l local = AllNumbered local.held.rings (takes ++ takes_by l local.phase)
 
-  still : (l : Label) (local : Local V) → takes_by l local.phase ≡ [] → local.held.rings ≡ h.rings → After l local
+  still : (l : Play) (local : Local V) → takes_by l local.phase ≡ [] → local.held.rings ≡ h.rings → After l local
   still l local none rings q = rw (rings, none, append-nil takes) (numbered q)
 
-  number-entry : (p : ℕ) (rest : List ℕ) (c : Chain) → looked h p ≡ took.Entry c → After label.Take (after_took h p rest (took.Entry c))
+  number-entry : (p : ℕ) (rest : List ℕ) (c : Chain) → looked h p ≡ took.Entry c → After play.Take (after_took h p rest (took.Entry c))
   number-entry p rest c is =
       let live = looked-live h p c is in
       let r : Vring = changed (ring_at h p) op.Taken in
@@ -84,33 +85,34 @@ module _ {V : Type 0} (g : Wiring) (h : Held V) (takes : List Take) (numbered : 
       ] in
       subst S (sym (live-taken (ring_at h p) live)) all
 
-  number-take-step : (queues : List ℕ) → After label.Take (after_take h queues)
-  number-take-step [] = still label.Take (after_take h []) refl refl
+  number-take-step : (queues : List ℕ) → After play.Take (after_take h queues)
+  number-take-step [] = still play.Take (after_take h []) refl refl
   number-take-step (p ∷ rest) =
-      take-leaf h (After label.Take) p rest
+      take-leaf h (After play.Take) p rest
       (number-entry p rest)
-      (λ is. still label.Take (after_took h p rest took.None) (serving-takes rest) (none-leaf h (λ x. x.rings ≡ h.rings) p (λ live. refl) (λ dead. refl)))
-      (λ d is. still label.Take (after_took h p rest (took.Damaged d)) refl refl)
+      (λ is. still play.Take (after_took h p rest took.None) (serving-takes rest) (none-leaf h (λ x. x.rings ≡ h.rings) p (λ live. refl) (λ dead. refl)))
+      (λ d is. still play.Take (after_took h p rest (took.Damaged d)) refl refl)
 
   called-rings : (held : Held V) (call : Option ℕ) (wanted : Bool) → (called held call wanted).rings ≡ held.rings
   called-rings held call false = refl
   called-rings held None true = refl
   called-rings held (Some object) true = refl
 
-  number-put : (e : Entry) (reply queues : List ℕ) → After label.Put (after_put h e reply queues)
+  number-put : (e : Entry) (reply queues : List ℕ) → After play.Put (after_put h e reply queues)
   number-put e reply queues =
-      said-cases (put_said h e reply) (λ said. After label.Put (after_said h e reply queues said))
+      said-cases (put_said h e reply) (λ said. After play.Put (after_said h e reply queues said))
       (λ wanted is q. rw (called-rings (used h e reply) (ring_at h e.queue).call wanted, append-nil takes) (same-numbers h.rings e.queue (ring_after (ring_at h e.queue) op.Put) q (takes_of q takes) refl refl refl (numbered q)))
       (λ fault is q. rw (append-nil takes) (same-numbers h.rings e.queue (ring_after (ring_at h e.queue) op.Hold) q (takes_of q takes) refl refl refl (numbered q)))
 
-  pub number-work : (m : Meaning V) (k : ℕ) (phase : Phase) (l : Label) → MayWork g k h phase l → After l (after_work m g k h phase l)
+  pub number-work : (m : Meaning V) (k : ℕ) (phase : Phase) (l : Play) → MayWork g k h phase l → After l (after_work m g k h phase l)
   number-work m k =
       work-cases g k h (λ phase l. After l (after_work m g k h phase l))
-      (λ object ready. still (label.Poll object) (after_work m g k h Idle (label.Poll object)) refl refl)
-      (λ object token. still label.Event (after_work m g k h (Polled object token) label.Event) refl (event-held g k h (λ x. x.rings ≡ h.rings) object token refl (λ o. refl)))
-      (still label.Sweep (after_work m g k h Sweep label.Sweep) refl refl)
+      (λ object ready. still (play.Poll object) (after_work m g k h Idle (play.Poll object)) refl refl)
+      (λ object token. still play.Event (after_work m g k h (Polled object token) play.Event) refl (event-held g k h (λ x. x.rings ≡ h.rings) object token refl (λ o. refl)))
+      (still play.Sweep (after_work m g k h Sweep play.Sweep) refl refl)
+      (λ token said. still (play.Hear said) (after_work m g k h (Heard token) (play.Hear said)) refl refl)
       number-take-step
-      (λ e queues. still label.Serve (after_work m g k h (Taken e queues) label.Serve) refl refl)
+      (λ e queues. still play.Serve (after_work m g k h (Taken e queues) play.Serve) refl refl)
       number-put
 
 -- A turn, and a run
@@ -121,19 +123,12 @@ module _ {V : Type 0} (m : Meaning V) (w : World V) (numbered : Numbered w) wher
   number-guest (Store object offset bytes ∷ actions) = numbered
   number-guest (Signal object ∷ actions) = numbered
 
-  number-step : (p : Party) (l : Label) → May w p l → Numbered (after m w p l)
-  number-step party.Guest label.Guest may = number-guest w.guest
-  number-step (party.Worker k) l may = number-work w.wiring w.held w.takes numbered m k (phase_at w.phases k) l may
-  number-step p l may = absurd may
-
-pub number-run : {V : Type 0} (m : Meaning V) (turns : List ℕ) (labels : List Label) (w z : World V) → Numbered w → IsRun m turns labels w z → Numbered z
-number-run {V} m [] [] w z numbered run = subst (λ (x : World V). Numbered x) (sym run) numbered
-number-run m [] (l ∷ labels) w z numbered run = absurd run
-number-run m (turn ∷ turns) [] w z numbered run = absurd run
-number-run {V} m (turn ∷ turns) (l ∷ labels) w z numbered run =
-    let P : World V → Type 0 = λ x. Numbered x in
-    let mid : Numbered run.0 = turn-cases m w (party_of turn) run.0 (λ l. Numbered run.0) (λ same. subst P (sym same) numbered) (λ l may is. subst P (sym is) (number-step m w numbered (party_of turn) l may)) l run.1 in
-    number-run m turns labels run.0 z mid run.2
+  module _ (control : (s : Small) (said : DeviceSaid) → MayControl w.held w.control.plan.steps s said → Numbered (after_control w s said)) where
+   pub number-step : (p : Party) (l : Play) → May w p l → Numbered (after m w p l)
+   number-step party.Guest play.Guest may = number-guest w.guest
+   number-step (party.Worker k) l may = number-work w.wiring w.held w.takes numbered m k (phase_at w.phases k) l may
+   number-step party.Control (play.Control s said) may = control s said may
+   number-step p l may = absurd may
 
 pub fresh-numbered : {V : Type 0} (w : World V) → IsFresh w → Numbered w
 fresh-numbered w fresh q = rw (fresh.no_takes, fresh.untaken q) (record { now = refl; none_later = λ e later. refl; each = λ e. (0, 0, refl) })

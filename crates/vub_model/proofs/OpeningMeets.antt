@@ -25,18 +25,21 @@ use Rattle.vub_model.specs.declared.wiring.Known.{Known}
 use Rattle.vub_model.specs.declared.wiring.Opened.{Opened}
 use Rattle.vub_model.specs.declared.wiring.Place.{Place}
 use Rattle.vub_model.specs.RingRecord.{Vring, closed_ring, is_on}
-use Rattle.vub_model.specs.Frame.{Frame, claim_of, frame_of}
+use Rattle.vub_model.specs.Frame.{Frame, claim_of, frame_of, known_of, is_there}
 use Rattle.vub_model.specs.Held.{Held, ring_at, count_at, pending_at, has_number, inserted, raised}
 use Rattle.vub_model.specs.Wiring.{Wiring, opened_at, no_worker, place_of, IsPlaced}
 use Rattle.vub_model.specs.World.{phase_at}
 use Rattle.vub_model.specs.Work.{is_object}
-use Rattle.vub_model.specs.ValidSetup.{or_else, is_event, is_event_or_none, is_free, is_free_or_none, is_first_of_queue, is_aligned, ring_is_sound, ring_fault, device_fault, region_fault, given_table_fault, guest_fault, fault_of, IsValid}
-use Rattle.vub_model.specs.Opening.{flags_of, opening_events, opened_worker, wiring_of, listed, exit_member, opening_members, given_vring, ring_from, opening_rings, claimed, joined, placed, registered_kick, registered, opening_table, before_rings, opening, is_registered}
-use Rattle.vub_model.specs.Schedule.{IsKick, IsBellOrExit, IsOwn, known_at, claim_at, is_member, Linked, Settled, PhaseFits, HasInHand, ringing, waiting, Invariant}
+use Rattle.vub_model.specs.ValidSetup.{or_else, is_event, is_event_or_none, is_free, is_free_or_none, is_first_of_queue, is_aligned, ring_is_sound, ring_fault, device_fault, region_fault, given_table_fault, guest_fault, fault_of, IsValid, is_answerable, request_fault}
+use Rattle.vub_model.specs.Opening.{flags_of, opening_events, opened_worker, wiring_of, listed, exit_member, opening_members, given_vring, ring_from, opening_rings, claimed, joined, placed, registered_kick, registered, opening_table, before_rings, opening, is_registered, new_control}
+use Rattle.vub_model.specs.Schedule.{IsKick, IsBellOrExit, IsOwn, known_at, claim_at, is_member, Linked, Settled, PhaseFits, HasInHand, ringing, waiting, Invariant, Wired, IsListener, RequestFits, NoBell}
 use Rattle.vub_model.proofs.Places.{place-is}
 use Rattle.vub_model.proofs.SchedWork.{known-ring, kick-ring, claim-event}
 use Rattle.vub_model.proofs.Waking.{has-none}
 use Rattle.vub_model.proofs.Registering.{Among, IsListed, IsOnKick, Stage, with-all, with-own, with-kept, claim-none, claim-kick, join-none, join-kick}
+use Rattle.vub_proto.specs.declared.request.Request.{Request}
+use Rattle.vub_proto.specs.declared.request.Request.TheVariants as request
+use Rattle.vub_model.proofs.Stepping.{begun-all}
 
 -- A set-up that fails no test
 
@@ -48,7 +51,7 @@ rings-sound : (constants : Constants) (setup : Setup) → IsValid constants setu
 unfolding fault_of
 rings-sound constants setup valid =
     let rings = ring_fault constants setup.objects [] setup.rings in
-    let guest = guest_fault setup.objects setup.guest in
+    let guest = or_else (request_fault constants setup.objects 0 setup.requests) (guest_fault setup.objects setup.guest) in
     let table = given_table_fault setup.objects setup.regions in
     let region = region_fault setup.objects setup.regions in
     let device = device_fault constants setup.objects in
@@ -56,6 +59,20 @@ rings-sound constants setup valid =
     let second = or-parts region (or_else table (or_else rings guest)) first.1 in
     let third = or-parts table (or_else rings guest) second.1 in
     (or-parts rings guest third.1).0
+
+requests-sound : (constants : Constants) (setup : Setup) → IsValid constants setup → request_fault constants setup.objects 0 setup.requests ≡ None
+unfolding fault_of
+requests-sound constants setup valid =
+    let requests = request_fault constants setup.objects 0 setup.requests in
+    let last = guest_fault setup.objects setup.guest in
+    let rings = ring_fault constants setup.objects [] setup.rings in
+    let table = given_table_fault setup.objects setup.regions in
+    let region = region_fault setup.objects setup.regions in
+    let device = device_fault constants setup.objects in
+    let first = or-parts device (or_else region (or_else table (or_else rings (or_else requests last)))) valid in
+    let second = or-parts region (or_else table (or_else rings (or_else requests last))) first.1 in
+    let third = or-parts table (or_else rings (or_else requests last)) second.1 in
+    (or-parts requests last (or-parts rings (or_else requests last) third.1).1).0
 
 -- what is asked of a ring behind these
 pub record IsSound (constants : Constants) (objects : List Object) (earlier : List GivenRing) (r : GivenRing) : Type 0 where
@@ -305,9 +322,9 @@ module _ (constants : Constants) (objects : List Object) (given : List GivenRing
   exit-in : (x : ℕ) (exit : Option ℕ) → exit ≡ Some x → is_member (exit_member exit constants.queues) x ≡ true
   exit-in x exit is = let P : Option ℕ → Type 0 = λ e. is_member (exit_member e constants.queues) x ≡ true in subst P (sym is) (with-own [] (listed x constants.queues))
 
-  module _ {V : Type 0} (regions : List GivenRegion) (guest : List Guest) (v : V) where
+  module _ {V : Type 0} (regions : List GivenRegion) (requests : List Request) (guest : List Guest) (v : V) where
     abbrev setup : Setup
-    setup = record { objects = objects; regions = regions; rings = given; guest = guest }
+    setup = record { objects = objects; regions = regions; rings = given; requests = requests; guest = guest }
 
     first-stage : Stage g count workers constants.exits rings [] [] (before_rings constants setup v)
     first-stage = record {
@@ -389,10 +406,10 @@ module _ (constants : Constants) (objects : List Object) (given : List GivenRing
 
     own-of : (k : ℕ) → k < workers → (m : Member) → IsListed g count constants.exits rings k m → IsOwn g f k m
     own-of k low m l = record { asks = l.asks; is = which l.is } where
-      which : IsOnKick g rings k m ⊎ ((m.token ≡ g.queues) × ((m.object ≡ count + k) ⊎ (slice_index_or constants.exits k None ≡ Some m.object))) → IsKick g f k m ⊎ IsBellOrExit g f k m
+      which : IsOnKick g rings k m ⊎ ((m.token ≡ g.queues) × ((m.object ≡ count + k) ⊎ (slice_index_or constants.exits k None ≡ Some m.object))) → IsKick g f k m ⊎ (IsBellOrExit g f k m ⊎ IsListener g f k m)
       which (inl kick) = inl (record { queue = kick.queue; placed = kick.placed; kick = kick-here kick.queue ∙ kick.kick })
-      which (inr (token, inl bell)) = inr (record { token = token; object = inl (opened (λ w. m.object ≡ w.bell) k low bell); free = claim-event h m.object ∙ (ap (λ x. claim_of (event_at h.table x)) bell ∙ s.free k low) })
-      which (inr (token, inr exit)) = inr (record { token = token; object = inr (opened (λ w. w.exit ≡ Some m.object) k low exit); free = claim-event h m.object ∙ s.exit_free k m.object exit })
+      which (inr (token, inl bell)) = inr (inl (record { token = token; object = inl (opened (λ w. m.object ≡ w.bell) k low bell); free = claim-event h m.object ∙ (ap (λ x. claim_of (event_at h.table x)) bell ∙ s.free k low) }))
+      which (inr (token, inr exit)) = inr (inl (record { token = token; object = inr (opened (λ w. w.exit ≡ Some m.object) k low exit); free = claim-event h m.object ∙ s.exit_free k m.object exit }))
 
     claimed-here : (q o : ℕ) → (at_ring q).kick ≡ Some o → claim_of (event_at h.table o) ≡ Some q
     claimed-here q o kick = let r = given-of q o kick in s.claimed_all r.ring r.among o r.kick ∙ ap (λ x. Some x) r.queue
@@ -403,6 +420,7 @@ module _ (constants : Constants) (objects : List Object) (given : List GivenRing
       bell = λ k below. opened (λ w. is_member (members_at h.table w.list) w.bell ≡ true) k (low-of k below) (s.bell k (low-of k below));
       exit = λ k x below is. opened (λ w. is_member (members_at h.table w.list) x ≡ true) k (low-of k below) (s.exit k x (low-of k below) (sym (ap (λ (w : Opened). w.exit) (opened-is k (low-of k below))) ∙ is));
       free = λ k below. opened (λ w. claim_at f w.bell ≡ None) k (low-of k below) (claim-event h (count + k) ∙ s.free k (low-of k below));
+      exit_free = λ k x below is. claim-event h x ∙ s.exit_free k x (sym (ap (λ (w : Opened). w.exit) (opened-is k (low-of k below))) ∙ is);
       apart = λ v w a b same.
           let left : (opened_at g v).bell ≡ count + v = ap (λ (x : Opened). x.bell) (opened-is v (low-of v a)) in
           let right : (opened_at g w).bell ≡ count + w = ap (λ (x : Opened). x.bell) (opened-is w (low-of w b)) in
@@ -437,6 +455,19 @@ module _ (constants : Constants) (objects : List Object) (given : List GivenRing
       refuse : Owner (IsListed g count constants.exits rings k) o → ⊥
       refuse owner = which owner.member owner.object owner.holds.is
 
+    wired-here : Wired g f
+    wired-here = record {
+      known = length-map h.rings known_of ∙ (ap length s.rings_are ∙ rings-size);
+      events = length-map h.table.objects claim_of ∙ sym (length-map h.table.objects (λ (e : Option Event). is_some e));
+      placed = λ q k n at. let low = (place-is g q k n at).below in omega (arith, low, opened-size);
+      within = λ k below. opened (λ w. w.list < length f.lists) k (low-of k below) (let low = low-of k below in let l = s.lists in omega (arith, low, l));
+      bells = λ k below. opened (λ w. is_there f w.bell ≡ true) k (low-of k below) (mapped-at (λ (e : Option Event). is_some e) h.table.objects (count + k) None false (let low = low-of k below in let l = s.objects in omega (arith, low, l)) ∙ s.some (count + k) (let low = low-of k below in omega (arith, low)));
+      lists = λ v w a b same.
+          let left : (opened_at g v).list ≡ v = ap (λ (x : Opened). x.list) (opened-is v (low-of v a)) in
+          let right : (opened_at g w).list ≡ w = ap (λ (x : Opened). x.list) (opened-is w (low-of w b)) in
+          sym left ∙ (same ∙ right);
+    }
+
     settled-here : Settled g f
     settled-here q k n o below at kick =
         let low = low-of k below in
@@ -455,16 +486,52 @@ registered-all : {V : Type 0} (constants : Constants) (setup : Setup) (v : V) �
 unfolding opening
 registered-all constants setup v is_valid =
     let valid = rings-sound constants setup is_valid in
-    register-all constants setup.objects setup.rings valid [] setup.rings (before_rings constants setup v) valid (λ r among. among) (first-stage constants setup.objects setup.rings valid setup.regions setup.guest v)
+    register-all constants setup.objects setup.rings valid [] setup.rings (before_rings constants setup v) valid (λ r among. among) (first-stage constants setup.objects setup.rings valid setup.regions setup.requests setup.guest v)
 
 pub opening-untaken : {V : Type 0} (constants : Constants) (setup : Setup) (v : V) → IsValid constants setup → (q : ℕ) → (ring_at (opening constants setup v).held q).taken ≡ 0
 opening-untaken constants setup v is_valid q =
     let valid = rings-sound constants setup is_valid in
     ap (λ (x : Vring). x.taken) (ring-here constants setup.objects setup.rings valid (opening constants setup v).held (registered-all constants setup v is_valid) q) ∙ (none-taken constants setup.objects setup.rings valid q).1
 
+-- the requests of a valid set-up fit its opening
+requests-fit : {V : Type 0} (constants : Constants) (setup : Setup) (v : V) → IsValid constants setup → AllByRecursion (RequestFits (wiring_of constants (length setup.objects)) (frame_of (opening constants setup v).held).events) setup.requests
+unfolding is_answerable request_fault
+requests-fit {V} constants setup v is_valid = all 0 setup.requests (requests-sound constants setup is_valid) where
+  g : Wiring
+  g = wiring_of constants (length setup.objects)
+
+  s : Stage (wiring_of constants (length setup.objects)) (length setup.objects) (length constants.masks) constants.exits (opening_rings constants setup.rings) setup.rings setup.rings (opening constants setup v).held
+  s = registered-all constants setup v is_valid
+
+  no-bell : (o : ℕ) → is_event setup.objects o ≡ true → NoBell (wiring_of constants (length setup.objects)) o
+  no-bell o is k below same =
+      let low = object-below setup.objects o is in
+      let valid = rings-sound constants setup is_valid in
+      let bell : (opened_at (wiring_of constants (length setup.objects)) k).bell ≡ length setup.objects + k = ap (λ (x : Opened). x.bell) (opened-is constants setup.objects setup.rings valid k (let size = opened-size constants setup.objects setup.rings valid in omega (arith, below, size))) in
+      absurd (omega (arith, low, bell, same))
+
+  there : (o : ℕ) → is_event setup.objects o ≡ true → slice_index_or (frame_of (opening constants setup v).held).events o false ≡ true
+  there o is =
+      let low = object-below setup.objects o is in
+      let long = s.objects in
+      mapped-at (λ (e : Option Event). is_some e) (opening constants setup v).held.table.objects o None false (omega (arith, low, long)) ∙ s.some o (omega (arith, low))
+
+  one : (r : Request) → is_answerable constants setup.objects r ≡ true → RequestFits (wiring_of constants (length setup.objects)) (frame_of (opening constants setup v).held).events r
+  one (request.SetVringKick queue (Some o)) is = (there o is, no-bell o is)
+  one (request.RegisterListener worker o set token) is = no-bell o (and_parts (is_event setup.objects o) (nat_lt worker (length constants.masks)) is).0
+  one (request.SetVringKick queue None) is = tt
+  one r is = tt
+
+  all : (i : ℕ) (requests : List Request) → request_fault constants setup.objects i requests ≡ None → AllByRecursion (RequestFits (wiring_of constants (length setup.objects)) (frame_of (opening constants setup v).held).events) requests
+  all i [] is = tt
+  all i (r ∷ requests) is =
+      let parts = cond-none (is_answerable constants setup.objects r) (request_fault constants setup.objects (i + 1) requests) (setup_fault.Request i) is in
+      (one r parts.0, all (i + 1) requests parts.1)
+
 pub opening-meets : {V : Type 0} (constants : Constants) (setup : Setup) (v : V) → IsValid constants setup → Invariant (opening constants setup v) (is_registered setup.rings)
 unfolding opening
 opening-meets {V} constants setup v is_valid =
+    let fit = requests-fit constants setup v is_valid in
     let valid = rings-sound constants setup is_valid in
     let objects = setup.objects in
     let given = setup.rings in
@@ -477,12 +544,14 @@ opening-meets {V} constants setup v is_valid =
       phases_size = length-map constants.masks (λ mask. Idle) ∙ sym size;
       pending_size = s.pending ∙ sym size;
       linked = linked-here constants objects given valid h s;
-      settled = settled-here constants objects given valid h s;
+      wired = wired-here constants objects given valid h s;
+      safe = (begun-all g (frame_of h) (wired-here constants objects given valid h s) (linked-here constants objects given valid h s) h.guest.regions (new_control setup) (settled-here constants objects given valid h s) fit).0;
+      requests = (begun-all g (frame_of h) (wired-here constants objects given valid h s) (linked-here constants objects given valid h s) h.guest.regions (new_control setup) (settled-here constants objects given valid h s) fit).1;
       numbers = s.numbers;
       phases = λ k. idle-fits g k constants.masks k;
       flies = λ q is. absurd (let none = ap (λ (x : Vring). x.flight) (ring-here constants objects given valid h s q) ∙ (none-taken constants objects given valid q).0 in cc);
       hands = λ k q hand. absurd (idle-hand constants.masks k q hand);
-      rung = λ k below goes some. ringing (opened constants objects given valid h s (λ w. 0 < count_at h.table w.bell) k (low-of constants objects given valid h s k below) (s.rung k (low-of constants objects given valid h s k below) some));
+      rung = λ k below goes some. inl (ringing (opened constants objects given valid h s (λ w. 0 < count_at h.table w.bell) k (low-of constants objects given valid h s k below) (s.rung k (low-of constants objects given valid h s k below) some)));
       awake = λ q k n o at goes kick member on addresses calms left.
-          waiting (joined-here constants objects given valid h s q k n o (place-is g q k n at).below at (ap (λ (x : Vring). x.kick) (sym (ring-here constants objects given valid h s q)) ∙ kick) (ap is_on (sym (ring-here constants objects given valid h s q)) ∙ on)).1;
+          inl (waiting (joined-here constants objects given valid h s q k n o (place-is g q k n at).below at (ap (λ (x : Vring). x.kick) (sym (ring-here constants objects given valid h s q)) ∙ kick) (ap is_on (sym (ring-here constants objects given valid h s q)) ∙ on)).1);
     }

@@ -1,23 +1,31 @@
 -- The schedule invariant holds along every run, so that no kick is lost at rest.
-use Rattle.std.proofs.Common.{◌≡◌, ◌≢◌, ℕ, ◌+◌, ◌<◌, ◌≤◌, Bool, true, false, cond, ◌&&◌, List, [], ◌∷◌, length, refl, sym, ap, ◌∙◌, subst, arith, eqb}
-use Rattle.std.proofs.lemmas.Bool.{and_parts}
-use Rattle.vub_model.specs.declared.label.Label.{Label}
-use Rattle.vub_model.specs.declared.label.Label.TheVariants as label
+use Rattle.std.proofs.Common.{◌≡◌, ◌≢◌, ℕ, ◌+◌, ◌<◌, ◌≤◌, Bool, true, false, cond, not, ◌&&◌, List, [], ◌∷◌, length, refl, sym, ap, ◌∙◌, subst, arith, eqb, slice_index_or, inl, inr}
+use Rattle.std.proofs.lemmas.Bool.{and_parts, cases_eq, cases_lt}
+use Rattle.vub_model.specs.declared.play.Play.{Play}
+use Rattle.vub_model.specs.declared.play.Play.TheVariants as play
 use Rattle.vub_model.specs.declared.party.Party.{Party}
 use Rattle.vub_model.specs.declared.party.Party.TheVariants as party
 use Rattle.vub_model.specs.declared.setup.Guest.{Guest}
 use Rattle.vub_model.specs.declared.setup.Guest.TheVariants.{Store, Signal}
-use Rattle.vub_model.specs.RingRecord.{limit}
-use Rattle.vub_model.specs.Held.{ring_at}
+use Rattle.vub_model.specs.RingRecord.{limit, Vring, closed_ring, ring_after}
+use Rattle.vub_model.specs.Held.{ring_at, Held, with_ring}
 use Rattle.vub_model.specs.Service.{Meaning}
-use Rattle.vub_model.specs.World.{World, May, after, after_guest}
+use Rattle.vub_model.specs.World.{World, May, after, after_guest, after_control}
 use Rattle.vub_model.specs.RunOf.{party_of, Turn, IsRun, IsAtRest}
-use Rattle.vub_model.specs.Running.{index_word, signals, signals_kick, calm_after, calm_end, NoneIsLost}
-use Rattle.vub_model.specs.Schedule.{Invariant}
+use Rattle.vub_model.specs.Running.{index_word, signals, signals_kick, unsettles, calm_after, calm_end, NoneIsLost}
+use Rattle.vub_model.specs.Schedule.{Invariant, Fits}
 use Rattle.vub_model.proofs.Turns.{turn-cases, turn-next}
 use Rattle.vub_model.proofs.SchedWork.{sched-worker, taken-worker}
 use Rattle.vub_model.proofs.SchedGuest.{sched-guest}
+use Rattle.vub_model.proofs.SchedControl.{sched-control, first-fits, taken-changed, taken-info}
 use Rattle.vub_model.proofs.Resting.{none-left}
+use Rattle.vub_model.proofs.Counting.{ring-own, ring-other, ring-past}
+use Rattle.vub_model.specs.declared.ring_op.RingOp.TheVariants as op
+use Rattle.vub_model.specs.declared.small.Small.{Small}
+use Rattle.vub_proto.specs.declared.device_said.DeviceSaid.{DeviceSaid}
+use Rattle.vub_model.specs.Control.{MayControl, small_after, next_used_at, tail_of}
+use Rattle.vub_model.specs.declared.small.Small.TheVariants.{Claim, Release, Add, Delete, Listen, Unlisten, Bell, Remove, Insert, Set, Info, Table, Log, Device, Answer as Answering}
+use Rattle.vub_model.specs.Frame.{frame_of}
 
 -- each ring has fewer entries taken than the limit, also after this many more
 abbrev pub IsFew : {V : Type 0} → World V → ℕ → Type 0
@@ -29,9 +37,10 @@ guest-step w calm i [] some = absurd (some refl)
 guest-step w calm i (action ∷ actions) some = sched-guest w calm i action actions
 
 -- a step that may be played keeps the invariant
-pub invariant-step : {V : Type 0} (m : Meaning V) (w : World V) (calm : ℕ → Bool) → IsFew w 0 → Invariant w calm → (p : Party) (l : Label) → May w p l → Invariant (after m w p l) (calm_after w p l (after m w p l) calm)
-invariant-step m w calm few i party.Guest label.Guest may = guest-step w calm i w.guest may
+pub invariant-step : {V : Type 0} (m : Meaning V) (w : World V) (calm : ℕ → Bool) → IsFew w 0 → Invariant w calm → (p : Party) (l : Play) → May w p l → Invariant (after m w p l) (calm_after w p l (after m w p l) calm)
+invariant-step m w calm few i party.Guest play.Guest may = guest-step w calm i w.guest may
 invariant-step m w calm few i (party.Worker k) l may = sched-worker m w calm (λ q. omega (arith, few q)) i k l may
+invariant-step m w calm few i party.Control (play.Control s said) may = sched-control w calm i s said may
 invariant-step m w calm few i p l may = absurd may
 
 guest-few : {V : Type 0} (w : World V) (actions : List Guest) (q : ℕ) → (ring_at (after_guest w actions).held q).taken ≤ (ring_at w.held q).taken + 1
@@ -39,10 +48,41 @@ guest-few w [] q = omega arith
 guest-few w (Store object offset bytes ∷ actions) q = omega arith
 guest-few w (Signal object ∷ actions) q = omega arith
 
+-- a control step takes none
+taken-set : {V : Type 0} (h : Held V) (p : ℕ) (r : Vring) → r.taken ≤ (ring_at h p).taken → (q : ℕ) → (ring_at (with_ring h p r) q).taken ≤ (ring_at h q).taken + 1
+taken-set h p r low q =
+    elim (cases_eq q p) [
+      | inl same ↦ elim (cases_lt p (length h.rings)) [
+        | inl within ↦ (let P : ℕ → Type 0 = λ q. (ring_at (with_ring h p r) q).taken ≤ (ring_at h q).taken + 1 in subst P (sym same) (omega (arith, low, ap (λ (x : Vring). x.taken) (ring-own h p r within))))
+        | inr past ↦ omega (arith, ap (λ l. (slice_index_or l q closed_ring).taken) (ring-past h p r past))
+      ]
+      | inr other ↦ omega (arith, ap (λ (x : Vring). x.taken) (ring-other h p r q other))
+    ]
+
+taken-small : {V : Type 0} (w : World V) (calm : ℕ → Bool) → Invariant w calm → (s : Small) (said : DeviceSaid) → MayControl w.held w.control.plan.steps s said → (q : ℕ) → (ring_at (after_control w s said).held q).taken ≤ (ring_at w.held q).taken + 1
+taken-small w calm i s said may q = by s (first-fits w calm i s said may) where
+  by : (s : Small) → Fits w.wiring (frame_of w.held) w.control.plan.reply s (tail_of w.control.plan.steps) → (ring_at (small_after w.wiring w.held s) q).taken ≤ (ring_at w.held q).taken + 1
+  by (Set p o) fits = taken-set w.held p (ring_after (ring_at w.held p) o) (taken-changed w.wiring (frame_of w.held) p (ring_at w.held p) o fits.1) q
+  by (Info p desc avail used) fits = taken-set w.held p (ring_after (ring_at w.held p) (op.SetInfo desc avail used (next_used_at w.held.guest used))) (taken-info (ring_at w.held p) desc avail used (next_used_at w.held.guest used)) q
+  by (Claim o p) fits = omega arith
+  by (Release o) fits = omega arith
+  by (Add k o n) fits = omega arith
+  by (Delete k o) fits = omega arith
+  by (Listen k o n) fits = omega arith
+  by (Unlisten k o a) fits = omega arith
+  by (Bell o) fits = omega arith
+  by (Remove k n) fits = omega arith
+  by (Insert k n) fits = omega arith
+  by (Table change) fits = omega arith
+  by (Log o offset size) fits = omega arith
+  by (Device call) fits = omega arith
+  by Answering fits = omega arith
+
 -- and takes one entry at most
-few-step : {V : Type 0} (m : Meaning V) (w : World V) (calm : ℕ → Bool) → IsFew w 0 → Invariant w calm → (p : Party) (l : Label) → May w p l → (q : ℕ) → (ring_at (after m w p l).held q).taken ≤ (ring_at w.held q).taken + 1
-few-step m w calm few i party.Guest label.Guest may q = guest-few w w.guest q
+few-step : {V : Type 0} (m : Meaning V) (w : World V) (calm : ℕ → Bool) → IsFew w 0 → Invariant w calm → (p : Party) (l : Play) → May w p l → (q : ℕ) → (ring_at (after m w p l).held q).taken ≤ (ring_at w.held q).taken + 1
+few-step m w calm few i party.Guest play.Guest may q = guest-few w w.guest q
 few-step m w calm few i (party.Worker k) l may q = taken-worker m w calm (λ q. omega (arith, few q)) i k l may q
+few-step m w calm few i party.Control (play.Control s said) may q = taken-small w calm i s said may q
 few-step m w calm few i p l may q = absurd may
 
 -- where fewer queues are calm the invariant says less
@@ -52,7 +92,9 @@ calmer w calm now less i = record {
   phases_size = i.phases_size;
   pending_size = i.pending_size;
   linked = i.linked;
-  settled = i.settled;
+  wired = i.wired;
+  safe = i.safe;
+  requests = i.requests;
   numbers = i.numbers;
   phases = i.phases;
   flies = i.flies;
@@ -61,23 +103,28 @@ calmer w calm now less i = record {
   awake = λ q k n o at goes kick member on addresses calms left. i.awake q k n o at goes kick member on addresses (less q calms) left;
 }
 
-no-signal : {V : Type 0} (w : World V) (p : Party) (q : ℕ) → signals w p label.Pass q ≡ false
+no-unsettle : {V : Type 0} (w : World V) (p : Party) (q : ℕ) → unsettles w p play.Pass q ≡ false
+no-unsettle w party.Guest q = refl
+no-unsettle w party.Control q = refl
+no-unsettle w (party.Worker k) q = refl
+
+no-signal : {V : Type 0} (w : World V) (p : Party) (q : ℕ) → signals w p play.Pass q ≡ false
 no-signal w party.Guest q = refl
 no-signal w party.Control q = refl
 no-signal w (party.Worker k) q = refl
 
-passed-calm : {V : Type 0} (w z : World V) (p : Party) (calm : ℕ → Bool) (q : ℕ) → calm_after w p label.Pass z calm q ≡ true → calm q ≡ true
+passed-calm : {V : Type 0} (w z : World V) (p : Party) (calm : ℕ → Bool) (q : ℕ) → calm_after w p play.Pass z calm q ≡ true → calm q ≡ true
 passed-calm w z p calm q is =
-    let here : cond false true (calm q && eqb (index_word z.held q) (index_word w.held q)) ≡ true = ap (λ b. cond b true (calm q && eqb (index_word z.held q) (index_word w.held q))) (sym (no-signal w p q)) ∙ is in
+    let here : cond false true (calm q && eqb (index_word z.held q) (index_word w.held q)) ≡ true = ap (λ b. cond false true (not b && calm q && eqb (index_word z.held q) (index_word w.held q))) (sym (no-unsettle w p q)) ∙ (ap (λ b. cond b true (not (unsettles w p play.Pass q) && calm q && eqb (index_word z.held q) (index_word w.held q))) (sym (no-signal w p q)) ∙ is) in
     (and_parts (calm q) (eqb (index_word z.held q) (index_word w.held q)) here).0
 
-invariant-turn : {V : Type 0} (m : Meaning V) (w : World V) (p : Party) (z : World V) (calm : ℕ → Bool) → IsFew w 0 → Invariant w calm → (l : Label) → Turn m w p l z → Invariant z (calm_after w p l z calm)
+pub invariant-turn : {V : Type 0} (m : Meaning V) (w : World V) (p : Party) (z : World V) (calm : ℕ → Bool) → IsFew w 0 → Invariant w calm → (l : Play) → Turn m w p l z → Invariant z (calm_after w p l z calm)
 invariant-turn {V} m w p z calm few i =
     turn-cases m w p z (λ l. Invariant z (calm_after w p l z calm))
-    (λ same. calmer z calm (calm_after w p label.Pass z calm) (λ q is. passed-calm w z p calm q is) (let K : World V → Type 0 = λ x. Invariant x calm in subst K (sym same) i))
+    (λ same. calmer z calm (calm_after w p play.Pass z calm) (λ q is. passed-calm w z p calm q is) (let K : World V → Type 0 = λ x. Invariant x calm in subst K (sym same) i))
     (λ l may is. let K : World V → Type 0 = λ x. Invariant x (calm_after w p l x calm) in subst K (sym is) (invariant-step m w calm few i p l may))
 
-few-turn : {V : Type 0} (m : Meaning V) (w : World V) (p : Party) (z : World V) (calm : ℕ → Bool) (more : ℕ) → IsFew w (more + 1) → Invariant w calm → (l : Label) → Turn m w p l z → IsFew z more
+pub few-turn : {V : Type 0} (m : Meaning V) (w : World V) (p : Party) (z : World V) (calm : ℕ → Bool) (more : ℕ) → IsFew w (more + 1) → Invariant w calm → (l : Play) → Turn m w p l z → IsFew z more
 few-turn {V} m w p z calm more few i =
     let K : World V → Type 0 = λ x. IsFew x more in
     turn-cases m w p z (λ l. IsFew z more)
@@ -85,7 +132,7 @@ few-turn {V} m w p z calm more few i =
     (λ l may is. subst K (sym is) (λ q. omega (arith, few q, few-step m w calm (λ q. omega (arith, few q)) i p l may q)))
 
 -- the invariant holds at the end of a run
-pub invariant-run : {V : Type 0} (m : Meaning V) (turns : List ℕ) (labels : List Label) (w z : World V) (calm : ℕ → Bool) → IsFew w (length turns) → Invariant w calm → IsRun m turns labels w z → Invariant z (calm_end m turns labels w calm)
+pub invariant-run : {V : Type 0} (m : Meaning V) (turns : List ℕ) (labels : List Play) (w z : World V) (calm : ℕ → Bool) → IsFew w (length turns) → Invariant w calm → IsRun m turns labels w z → Invariant z (calm_end m turns labels w calm)
 invariant-run {V} m [] [] w z calm few i run = let K : World V → Type 0 = λ x. Invariant x calm in subst K (sym run) i
 invariant-run {V} m [] (l ∷ labels) w z calm few i run = absurd run
 invariant-run {V} m (turn ∷ turns) [] w z calm few i run = absurd run
@@ -98,5 +145,5 @@ invariant-run {V} m (turn ∷ turns) (l ∷ labels) w z calm few i run =
     subst C (turn-next m w p l run.0 run.1) rest
 
 -- no kick is lost in a run from a world with the invariant
-pub at-rest : {V : Type 0} (m : Meaning V) (turns : List ℕ) (labels : List Label) (w z : World V) (calm : ℕ → Bool) → IsFew w (length turns) → Invariant w calm → IsRun m turns labels w z → IsAtRest z → NoneIsLost z (calm_end m turns labels w calm)
+pub at-rest : {V : Type 0} (m : Meaning V) (turns : List ℕ) (labels : List Play) (w z : World V) (calm : ℕ → Bool) → IsFew w (length turns) → Invariant w calm → IsRun m turns labels w z → IsAtRest z → NoneIsLost z (calm_end m turns labels w calm)
 at-rest m turns labels w z calm few i run rest = none-left z (calm_end m turns labels w calm) (invariant-run m turns labels w z calm few i run) rest

@@ -1,45 +1,60 @@
 -- The steps of a worker, case by case, and what each of them leads to.
-use Rattle.std.proofs.Common.{◌≡◌, ℕ, Bool, true, false, cond, not, ◌&&◌, inl, inr, List, [], ◌∷◌, length, Option, is_some, Result, Ok, Err, refl, subst, arith, eqb, nat_lt}
-use Rattle.std.proofs.lemmas.Bool.{cond_both, lt-ltb, le-ltb, ltb-false, eq-eqb}
+use Rattle.std.proofs.Common.{◌≡◌, ℕ, ◌<◌, Bool, true, false, cond, not, ◌&&◌, inl, inr, List, [], ◌∷◌, length, Option, is_some, Result, Ok, Err, refl, subst, arith, eqb, nat_lt}
+use Rattle.std.proofs.lemmas.Bool.{cond_both, lt-ltb, le-ltb, ltb-false, eq-eqb, ne_eqb}
 use Rattle.vub_queue.specs.declared.chain.Chain.{Chain}
 use Rattle.vub_queue.specs.declared.took.Took.{Took}
 use Rattle.vub_queue.specs.declared.took.Took.TheVariants as took
 use Rattle.vub_queue.specs.declared.damage.Damage.{Damage}
 use Rattle.vub_queue.specs.declared.putting.PutFault.{PutFault}
+use Rattle.vub_event.specs.HostTable.{members_at}
+use Rattle.vub_event.specs.InterestList.{member_of}
 use Rattle.vub_queue.specs.Function.{took_of}
 use Rattle.vub_queue.specs.Take.{IsEmpty, Taken as TakenSo}
 use Rattle.vub_queue.proofs.Walks.{takes_some}
 use Rattle.vub_model.specs.declared.cause.Why.TheVariants as why
 use Rattle.vub_model.specs.declared.cause.StopCause.TheVariants.{Exit}
+use Rattle.vub_proto.specs.declared.device_said.DeviceSaid.{DeviceSaid}
+use Rattle.vub_proto.specs.declared.device_said.DeviceSaid.TheVariants as outcome
 use Rattle.vub_model.specs.declared.entry.Entry.{Entry}
-use Rattle.vub_model.specs.declared.label.Label.{Label}
-use Rattle.vub_model.specs.declared.label.Label.TheVariants as label
+use Rattle.vub_model.specs.declared.play.Play.{Play}
+use Rattle.vub_model.specs.declared.play.Play.TheVariants as play
 use Rattle.vub_model.specs.declared.phase.Phase.{Phase}
-use Rattle.vub_model.specs.declared.phase.Phase.TheVariants.{Idle, Polled, Sweep, Serving, Taken, Served, Stopped}
+use Rattle.vub_model.specs.declared.phase.Phase.TheVariants.{Idle, Polled, Sweep, Heard, Serving, Taken, Served, Stopped}
 use Rattle.vub_model.specs.declared.ring_op.RingOp.TheVariants as op
 use Rattle.vub_model.specs.RingRecord.{Vring, is_on, has_addresses, is_in_flight, limit, changed}
 use Rattle.vub_model.specs.Held.{Held, ring_at, with_ring, count_at, counter_read}
 use Rattle.vub_model.specs.Wiring.{Wiring, opened_at, queues_of, IsPlaced}
-use Rattle.vub_model.specs.Work.{Local, MayWork, serving, stopped, is_object, after_kick, after_bell, after_event, is_live, looked, entry_of, after_none, after_took, after_take, put_said, why_of, used, called, after_put, after_said}
+use Rattle.vub_model.specs.Work.{Local, MayWork, serving, stopped, is_object, after_kick, after_bell, after_event, after_heard, has_token, is_live, looked, entry_of, after_none, after_took, after_take, put_said, why_of, used, called, after_put, after_said}
 use Rattle.vub_model.specs.Schedule.{PhaseFits}
 use Rattle.vub_model.proofs.Places.{slot, few-queues}
+use Rattle.vub_model.specs.declared.cause.Why.{Why}
 
--- a worker's step is one of six
-pub work-cases : {V : Type 0} (g : Wiring) (worker : ℕ) (h : Held V) (P : Phase → Label → Type 0)
-    → ((object : ℕ) → MayWork g worker h Idle (label.Poll object) → P Idle (label.Poll object))
-    → ((object token : ℕ) → P (Polled object token) label.Event)
-    → P Sweep label.Sweep
-    → ((queues : List ℕ) → P (Serving queues) label.Take)
-    → ((e : Entry) (queues : List ℕ) → P (Taken e queues) label.Serve)
-    → ((e : Entry) (reply queues : List ℕ) → P (Served e reply queues) label.Put)
-    → (phase : Phase) (l : Label) → MayWork g worker h phase l → P phase l
-work-cases g worker h P poll event sweep take serve put Idle (label.Poll object) may = poll object may
-work-cases g worker h P poll event sweep take serve put (Polled object token) label.Event may = event object token
-work-cases g worker h P poll event sweep take serve put Sweep label.Sweep may = sweep
-work-cases g worker h P poll event sweep take serve put (Serving queues) label.Take may = take queues
-work-cases g worker h P poll event sweep take serve put (Taken e queues) label.Serve may = serve e queues
-work-cases g worker h P poll event sweep take serve put (Served e reply queues) label.Put may = put e reply queues
-work-cases g worker h P poll event sweep take serve put phase l may = absurd may
+-- a worker's step is one of seven
+pub work-cases : {V : Type 0} (g : Wiring) (worker : ℕ) (h : Held V) (P : Phase → Play → Type 0)
+    → ((object : ℕ) → MayWork g worker h Idle (play.Poll object) → P Idle (play.Poll object))
+    → ((object token : ℕ) → P (Polled object token) play.Event)
+    → P Sweep play.Sweep
+    → ((token : ℕ) (said : DeviceSaid) → P (Heard token) (play.Hear said))
+    → ((queues : List ℕ) → P (Serving queues) play.Take)
+    → ((e : Entry) (queues : List ℕ) → P (Taken e queues) play.Serve)
+    → ((e : Entry) (reply queues : List ℕ) → P (Served e reply queues) play.Put)
+    → (phase : Phase) (l : Play) → MayWork g worker h phase l → P phase l
+work-cases g worker h P poll event sweep hear take serve put Idle (play.Poll object) may = poll object may
+work-cases g worker h P poll event sweep hear take serve put (Polled object token) play.Event may = event object token
+work-cases g worker h P poll event sweep hear take serve put Sweep play.Sweep may = sweep
+work-cases g worker h P poll event sweep hear take serve put (Heard token) (play.Hear said) may = hear token said
+work-cases g worker h P poll event sweep hear take serve put (Serving queues) play.Take may = take queues
+work-cases g worker h P poll event sweep hear take serve put (Taken e queues) play.Serve may = serve e queues
+work-cases g worker h P poll event sweep hear take serve put (Served e reply queues) play.Put may = put e reply queues
+work-cases g worker h P poll event sweep hear take serve put phase l may = absurd may
+
+-- the device has handled the event, or refused it
+pub heard-leaf : (P : Phase → Type 0) → P Idle → ((w : Why) → P (stopped w)) → (said : DeviceSaid) → P (after_heard said)
+heard-leaf P idle ends outcome.Done = idle
+heard-leaf P idle ends (outcome.Content bytes) = idle
+heard-leaf P idle ends (outcome.Object object) = idle
+heard-leaf P idle ends (outcome.Number n) = idle
+heard-leaf P idle ends (outcome.Refused n) = ends (why.Device n)
 
 -- what is_live asks
 pub record Live (r : Vring) : Type 0 where
@@ -86,12 +101,17 @@ module _ {V : Type 0} (g : Wiring) (worker : ℕ) (h : Held V) (P : Local V → 
       → P (record { held = h; phase = Idle })
       → P (record { held = counter_read h (opened_at g worker).bell; phase = Sweep })
       → (count_at h.table (opened_at g worker).bell ≡ 0 → P (record { held = h; phase = cond (is_some (opened_at g worker).exit) (Stopped Exit) Idle }))
+      → (g.queues < token → has_token (member_of (members_at h.table (opened_at g worker).list) object) token ≡ true → P (record { held = counter_read h object; phase = Heard token }))
       → P (after_event g worker h object token)
-  event-leaf object token (inl is) reads stale sweeps silent =
+  event-leaf object token (inl is) reads stale sweeps silent hears =
       let past : nat_lt token (length (queues_of g worker)) ≡ false = le-ltb token (length (queues_of g worker)) (omega (arith, few-queues g worker, is)) in
       let here : eqb token g.queues ≡ true = eq-eqb token g.queues is in
       rw (past, here) (bell-leaf (opened_at g worker).bell (opened_at g worker).exit sweeps silent)
-  event-leaf object token (inr number) reads stale sweeps silent =
+  event-leaf object token (inr (inr high)) reads stale sweeps silent hears =
+      let past : nat_lt token (length (queues_of g worker)) ≡ false = le-ltb token (length (queues_of g worker)) (omega (arith, few-queues g worker, high)) in
+      let other : eqb token g.queues ≡ false = ne_eqb token g.queues (λ e. absurd (omega (arith, high, e))) in
+      rw (past, other) (cond_both {A = Local V} (has_token (member_of (members_at h.table (opened_at g worker).list) object) token) (record { held = counter_read h object; phase = Heard token }) (record { held = h; phase = Idle }) P (hears high) (λ not. stale))
+  event-leaf object token (inr (inl number)) reads stale sweeps silent hears =
       let at = slot g number.0 worker token number.1 in
       let below : nat_lt token (length (queues_of g worker)) ≡ true = lt-ltb token (length (queues_of g worker)) at.0 in
       rw (below, at.1) (kick-leaf number.0 object (reads number.0 number.1) stale)

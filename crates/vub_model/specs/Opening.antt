@@ -23,6 +23,12 @@ use Rattle.vub_model.specs.declared.wiring.Place.{Place}
 use Rattle.vub_model.specs.RingRecord.{Vring, closed_ring, closed_queue}
 use Rattle.vub_model.specs.ValidSetup.{contents_from, given_region}
 use Rattle.vub_model.specs.Held.{Held, raised, inserted}
+use Rattle.vub_mem.specs.declared.mapping.Mapping.{Mapping}
+use Rattle.vub_proto.specs.declared.answer.Answer.TheVariants as answer
+use Rattle.vub_model.specs.declared.session.Session.{Session}
+use Rattle.vub_model.specs.declared.setup.GivenRegion.{GivenRegion}
+use Rattle.vub_model.specs.Plans.{says}
+use Rattle.vub_model.specs.Control.{Control, begun}
 use Rattle.vub_model.specs.Wiring.{Wiring, opened_at, place_of}
 use Rattle.vub_model.specs.World.{World}
 
@@ -42,7 +48,7 @@ opened_worker count exits w = record { worker = w; list = w; bell = count + w; e
 
 abbrev pub wiring_of : Constants → ℕ → Wiring
 wiring_of constants count =
-    record { queues = constants.queues; masks = constants.masks; opened = map (λ w. opened_worker count constants.exits w) (range_with_len 0 (length constants.masks)) }
+    record { queues = constants.queues; max = constants.max; features = constants.features; protocol = constants.protocol; masks = constants.masks; opened = map (λ w. opened_worker count constants.exits w) (range_with_len 0 (length constants.masks)) }
 
 -- IN, of the events that a member may ask for (epoll(7))
 abbrev pub listed : ℕ → ℕ → Member
@@ -123,9 +129,28 @@ abbrev pub before_rings : {V : Type 0} → Constants → Setup → V → Held V
 before_rings constants setup service =
     record { guest = record { regions = map given_region setup.regions; contents = contents_from 0 setup.objects }; rings = opening_rings constants setup.rings; table = opening_table constants setup.objects; pending = map (λ mask. []) constants.masks; service = service }
 
+-- what is held when all given rings are registered
+abbrev pub opening_held : {V : Type 0} → Constants → Setup → V → Held V
+opening_held constants setup service =
+    fold (λ h r. registered (wiring_of constants (length setup.objects)) h r) (before_rings constants setup service) setup.rings
+
+abbrev pub mapping_of : GivenRegion → Mapping
+mapping_of r = record { user = r.user; len = r.len; start = r.start }
+
+-- no request was begun, and the session has the mappings of the given regions
+abbrev pub new_control : Setup → Control
+new_control setup =
+    let s : Session = record { owned = false; features = 0; protocol = 0; mappings = map mapping_of setup.regions } in
+    record { session = s; plan = record { steps = []; reply = says answer.Ok; session = s }; requests = setup.requests; answers = [] }
+
+-- the first request begins
+abbrev pub opening_control : {V : Type 0} → Constants → Setup → V → Control
+opening_control constants setup service =
+    begun (wiring_of constants (length setup.objects)) (opening_held constants setup service) (new_control setup)
+
 unfoldable pub opening : {V : Type 0} → Constants → Setup → V → World V
 opening constants setup service =
-    record { held = fold (λ h r. registered (wiring_of constants (length setup.objects)) h r) (before_rings constants setup service) setup.rings; wiring = wiring_of constants (length setup.objects); phases = map (λ mask. Idle) constants.masks; guest = setup.guest; takes = []; uses = []; written = map unwritten setup.objects }
+    record { held = opening_held constants setup service; wiring = wiring_of constants (length setup.objects); phases = map (λ mask. Idle) constants.masks; guest = setup.guest; control = opening_control constants setup service; takes = []; uses = []; written = map unwritten setup.objects }
 
 -- the opening counts as the registration of the rings that it registers
 abbrev pub is_registered : List GivenRing → ℕ → Bool

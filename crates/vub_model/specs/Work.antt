@@ -16,9 +16,12 @@ use Rattle.vub_model.specs.declared.cause.Why.{Why}
 use Rattle.vub_model.specs.declared.cause.Why.TheVariants as why
 use Rattle.vub_model.specs.declared.cause.VringEpollError.TheVariants.{HandleEventBackendHandling}
 use Rattle.vub_model.specs.declared.cause.StopCause.TheVariants.{Exit, Fault}
+use Rattle.vub_proto.specs.declared.device_op.DeviceOp.TheVariants as device
+use Rattle.vub_proto.specs.declared.device_said.DeviceSaid.{DeviceSaid}
+use Rattle.vub_proto.specs.declared.device_said.DeviceSaid.TheVariants as outcome
 use Rattle.vub_model.specs.declared.entry.Entry.{Entry}
-use Rattle.vub_model.specs.declared.label.Label.{Label}
-use Rattle.vub_model.specs.declared.label.Label.TheVariants as label
+use Rattle.vub_model.specs.declared.play.Play.{Play}
+use Rattle.vub_model.specs.declared.play.Play.TheVariants as play
 use Rattle.vub_model.specs.declared.phase.Phase.{Phase}
 use Rattle.vub_model.specs.declared.phase.Phase.TheVariants.{Idle, Polled, Sweep, Heard, Serving, Taken, Served, Stopped}
 use Rattle.vub_model.specs.declared.ring_op.RingOp.TheVariants as op
@@ -27,6 +30,7 @@ use Rattle.vub_model.specs.EntryNumber.{next_number}
 use Rattle.vub_model.specs.Held.{Held, ring_at, with_ring, count_at, counter_read, raised_or_none, is_ready, token_of, pending_at, swept}
 use Rattle.vub_model.specs.Wiring.{Wiring, opened_at, queues_of}
 use Rattle.vub_model.specs.Service.{Meaning}
+use Rattle.vub_model.specs.Control.{IsOutcome}
 
 -- what is held, and one worker's phase
 pub record Local (V : Type 0) : Type 0 where
@@ -80,6 +84,13 @@ after_event g worker h object token =
     else if token == g.queues
     then after_bell h (opened_at g worker).bell (opened_at g worker).exit
     else after_listener h (opened_at g worker).list object token
+
+-- Hear
+
+-- the device has handled the event, or refused it
+abbrev pub after_heard : DeviceSaid → Phase
+after_heard (outcome.Refused n) = stopped (why.Device n)
+after_heard said = Idle
 
 -- Sweep
 
@@ -157,20 +168,22 @@ after_put h e reply queues = after_said h e reply queues (put_said h e reply)
 
 -- May and After of a worker
 
-abbrev pub MayWork : {V : Type 0} → Wiring → ℕ → Held V → Phase → Label → Type 0
-MayWork g worker h Idle (label.Poll object) = is_ready h.table (opened_at g worker).list object ≡ true
-MayWork g worker h (Polled object token) label.Event = Unit {0}
-MayWork g worker h Sweep label.Sweep = Unit {0}
-MayWork g worker h (Serving queues) label.Take = Unit {0}
-MayWork g worker h (Taken e queues) label.Serve = Unit {0}
-MayWork g worker h (Served e reply queues) label.Put = Unit {0}
+abbrev pub MayWork : {V : Type 0} → Wiring → ℕ → Held V → Phase → Play → Type 0
+MayWork g worker h Idle (play.Poll object) = is_ready h.table (opened_at g worker).list object ≡ true
+MayWork g worker h (Polled object token) play.Event = Unit {0}
+MayWork g worker h Sweep play.Sweep = Unit {0}
+MayWork g worker h (Heard token) (play.Hear said) = IsOutcome (device.HandleEvent token worker) said
+MayWork g worker h (Serving queues) play.Take = Unit {0}
+MayWork g worker h (Taken e queues) play.Serve = Unit {0}
+MayWork g worker h (Served e reply queues) play.Put = Unit {0}
 MayWork g worker h phase l = ⊥
 
-abbrev pub after_work : {V : Type 0} → Meaning V → Wiring → ℕ → Held V → Phase → Label → Local V
-after_work m g worker h Idle (label.Poll object) = record { held = h; phase = Polled object (token_of h.table (opened_at g worker).list object) }
-after_work m g worker h (Polled object token) label.Event = after_event g worker h object token
-after_work m g worker h Sweep label.Sweep = after_sweep g worker h
-after_work m g worker h (Serving queues) label.Take = after_take h queues
-after_work m g worker h (Taken e queues) label.Serve = after_serve m h e queues
-after_work m g worker h (Served e reply queues) label.Put = after_put h e reply queues
+abbrev pub after_work : {V : Type 0} → Meaning V → Wiring → ℕ → Held V → Phase → Play → Local V
+after_work m g worker h Idle (play.Poll object) = record { held = h; phase = Polled object (token_of h.table (opened_at g worker).list object) }
+after_work m g worker h (Polled object token) play.Event = after_event g worker h object token
+after_work m g worker h Sweep play.Sweep = after_sweep g worker h
+after_work m g worker h (Heard token) (play.Hear said) = record { held = h; phase = after_heard said }
+after_work m g worker h (Serving queues) play.Take = after_take h queues
+after_work m g worker h (Taken e queues) play.Serve = after_serve m h e queues
+after_work m g worker h (Served e reply queues) play.Put = after_put h e reply queues
 after_work m g worker h phase l = record { held = h; phase = phase }

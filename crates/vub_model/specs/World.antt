@@ -5,9 +5,10 @@ use Rattle.vub_mem.specs.Place.{content_of, store_at}
 use Rattle.vub_proto.specs.declared.used.Used.{Used}
 use Rattle.vub_queue.specs.declared.putting.PutFault.{PutFault}
 use Rattle.vub_model.specs.declared.cause.StopCause.TheVariants.{Exit}
+use Rattle.vub_proto.specs.declared.device_said.DeviceSaid.{DeviceSaid}
 use Rattle.vub_model.specs.declared.entry.Entry.{Entry}
-use Rattle.vub_model.specs.declared.label.Label.{Label}
-use Rattle.vub_model.specs.declared.label.Label.TheVariants as label
+use Rattle.vub_model.specs.declared.play.Play.{Play}
+use Rattle.vub_model.specs.declared.play.Play.TheVariants as play
 use Rattle.vub_model.specs.declared.party.Party.{Party}
 use Rattle.vub_model.specs.declared.party.Party.TheVariants as party
 use Rattle.vub_model.specs.declared.phase.Phase.{Phase}
@@ -15,6 +16,8 @@ use Rattle.vub_model.specs.declared.phase.Phase.TheVariants.{Serving, Taken, Ser
 use Rattle.vub_model.specs.declared.records.Take.{Take}
 use Rattle.vub_model.specs.declared.setup.Guest.{Guest}
 use Rattle.vub_model.specs.declared.setup.Guest.TheVariants.{Store, Signal}
+use Rattle.vub_model.specs.declared.small.Small.{Small}
+use Rattle.vub_model.specs.Control.{Control, small_after, MayControl, control_after}
 use Rattle.vub_model.specs.Held.{Held, ring_at, raised}
 use Rattle.vub_model.specs.Service.{Meaning}
 use Rattle.vub_model.specs.Wiring.{Wiring}
@@ -29,6 +32,7 @@ pub record World (V : Type 0) : Type 0 where
   pub phases : List Phase
   -- the actions of the guest that are left
   pub guest : List Guest
+  pub control : Control
   -- what was taken and used so far, in order
   pub takes : List Take
   pub uses : List Used
@@ -63,8 +67,8 @@ abbrev pub used_of : Entry → List ℕ → Used
 used_of e reply = record { queue = e.queue; epoch = e.epoch; number = e.number; head = e.chain.head; reply = reply }
 
 -- what a Take that ends in this phase took
-abbrev pub takes_by : Label → Phase → List Take
-takes_by label.Take (Taken e queues) = take_of e ∷ []
+abbrev pub takes_by : Play → Phase → List Take
+takes_by play.Take (Taken e queues) = take_of e ∷ []
 takes_by l phase = []
 
 abbrev pub if_used : {A : Type 0} → Result Bool PutFault → List A → List A
@@ -72,31 +76,38 @@ if_used (Ok wanted) xs = xs
 if_used (Err fault) xs = []
 
 -- what a Put that begins in this phase used
-abbrev pub uses_by : {V : Type 0} → Held V → Label → Phase → List Used
-uses_by h label.Put (Served e reply queues) = if_used (put_said h e reply) (used_of e reply ∷ [])
+abbrev pub uses_by : {V : Type 0} → Held V → Play → Phase → List Used
+uses_by h play.Put (Served e reply queues) = if_used (put_said h e reply) (used_of e reply ∷ [])
 uses_by h l phase = []
 
 -- the bytes that a step that begins in this phase wrote
-abbrev pub written_by : {V : Type 0} → Held V → Label → Phase → List Spot
-written_by h label.Take (Serving (queue ∷ rest)) =
+abbrev pub written_by : {V : Type 0} → Held V → Play → Phase → List Spot
+written_by h play.Take (Serving (queue ∷ rest)) =
     if is_live (ring_at h queue) then take_spots h.guest.regions (ring_at h queue).queue (looked h queue) else []
-written_by h label.Put (Served e reply queues) =
+written_by h play.Put (Served e reply queues) =
     if_used (put_said h e reply) (put_spots h.guest.regions (ring_at h e.queue).queue e.chain reply)
 written_by h l phase = []
 
-abbrev pub after_local : {V : Type 0} → World V → ℕ → Label → Phase → Local V → World V
+abbrev pub after_local : {V : Type 0} → World V → ℕ → Play → Phase → Local V → World V
 after_local w worker l before local =
     record w { held = local.held; phases = slice_set w.phases worker local.phase; takes = w.takes ++ takes_by l local.phase; uses = w.uses ++ uses_by w.held l before; written = with_spots w.written (written_by w.held l before) }
+
+-- Control
+
+abbrev pub after_control : {V : Type 0} → World V → Small → DeviceSaid → World V
+after_control w s said = record w { held = small_after w.wiring w.held s; control = control_after w.wiring w.held w.control s said }
 
 -- May and After
 
 -- the label may be played by this party now
-abbrev pub May : {V : Type 0} → World V → Party → Label → Type 0
-May w party.Guest label.Guest = w.guest ≢ []
+abbrev pub May : {V : Type 0} → World V → Party → Play → Type 0
+May w party.Guest play.Guest = w.guest ≢ []
+May w party.Control (play.Control s said) = MayControl w.held w.control.plan.steps s said
 May w (party.Worker k) l = MayWork w.wiring k w.held (phase_at w.phases k) l
 May w p l = ⊥
 
-abbrev pub after : {V : Type 0} → Meaning V → World V → Party → Label → World V
-after m w party.Guest label.Guest = after_guest w w.guest
+abbrev pub after : {V : Type 0} → Meaning V → World V → Party → Play → World V
+after m w party.Guest play.Guest = after_guest w w.guest
+after m w party.Control (play.Control s said) = after_control w s said
 after m w (party.Worker k) l = after_local w k l (phase_at w.phases k) (after_work m w.wiring k w.held (phase_at w.phases k) l)
 after m w p l = w

@@ -2,13 +2,21 @@
 //! each call.
 #![tactic(auto)]
 
+mod answer;
 mod device;
+mod device_op;
+mod device_said;
 mod echo;
+mod request;
 mod service;
 mod used;
 
+pub use answer::{Answer, Cause, Denied, ListenerError, VhostUserError};
 pub use device::VhostUserBackendMut;
+pub use device_op::{Backend, DeviceOp};
+pub use device_said::DeviceSaid;
 pub use echo::Echo;
+pub use request::{Part, Request};
 pub use service::Service;
 pub use used::Used;
 

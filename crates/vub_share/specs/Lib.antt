@@ -1,5 +1,6 @@
-pub mod Statuses
 pub mod Device
 pub mod Endings
 pub mod Inputs
+pub mod OnInput
 pub mod ScriptRun
+pub mod Statuses

@@ -1,6 +1,7 @@
 ghost use Rattle.std.specs.Prelude.{◌≡◌};
 
 use std::alloc::Global;
+use std::marker::Model;
 use vub_base::OutOfMemory;
 use vub_proto::VhostUserBackendMut;
 use vub_script::DeviceForm;
@@ -12,11 +13,20 @@ pub struct ScriptDevice {
     refusals: u64,
 }
 
+impl Model for ScriptDevice {
+    ghost use Rattle.std.specs.Prelude.{ℕ};
+    ghost use Rattle.vub_script.specs.declared.device_form.DeviceForm.{DeviceForm};
+
+    // what the script says of it, and how many of its calls it has refused
+    ghost Value = { DeviceForm × ℕ };
+
+    ghost view = { λ d. (d.form, d.refusals) };
+}
+
 impl ScriptDevice {
     /// The device with these constants, which has refused no call yet.
     pub fn new(form: DeviceForm) -> ScriptDevice
-        ensures form { result.form ≡ form }
-        ensures refusals { result.refusals ≡ 0 }
+        ensures { result ≡ (form, 0) }
     {
         ScriptDevice { form, refusals: 0 }
     }
@@ -25,19 +35,19 @@ impl ScriptDevice {
 impl VhostUserBackendMut for ScriptDevice {
     ghost use Rattle.vub_share.specs.Device.{exit_at};
 
-    ghost queue_count = { λ d. d.form.queues };
+    ghost queue_count = { λ d. d.0.queues };
 
-    ghost greatest_size = { λ d. d.form.max_size };
+    ghost greatest_size = { λ d. d.0.max_size };
 
-    ghost offered = { λ d. d.form.features };
+    ghost offered = { λ d. d.0.features };
 
-    ghost protocol_offered = { λ d. d.form.protocol };
+    ghost protocol_offered = { λ d. d.0.protocol };
 
-    ghost masks = { λ d. d.form.masks };
+    ghost masks = { λ d. d.0.masks };
 
-    ghost exit_of = { λ d worker. exit_at d.form.exits worker };
+    ghost exit_of = { λ d worker. exit_at d.0.exits worker };
 
-    ghost refusal_count = { λ d. d.refusals };
+    ghost refusal_count = { λ d. d.1 };
 
     fn num_queues(&self) -> usize {
         self.form.queues as usize

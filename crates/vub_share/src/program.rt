@@ -5,6 +5,7 @@ ghost use Rattle.vub_model.specs.declared.run.Run.{Run};
 ghost use Rattle.vub_stream.specs.Whole.{WritesFront};
 ghost use Rattle.vub_text.specs.Text.{run_text};
 ghost use Rattle.vub_share.specs.Inputs.{IsTooLong, IsNoScript, IsSetUpRefused, IsRunnable, HasRun};
+ghost use Rattle.vub_share.specs.OnInput.{OnInput};
 ghost use Rattle.vub_share.specs.Endings.{IsStatus};
 
 use crate::finished::Finished;
@@ -18,7 +19,9 @@ use vub_text::print_run;
 /// Writes the text of a run. The text is whole in memory before its first byte is written.
 fn write_run<K: Sink>(alloc: Global, run: Run, sink: &mut K) -> Finished
     ensures done { result.status ≡ 0 → (result.run ≡ Some run) × Appends (K.taken sink.old) (K.taken sink.new) (run_text run) }
-    ensures failed { result.status ≡ 5 → (result.run ≡ Some run) × WritesFront (K.taken sink.old) (K.taken sink.new) (run_text run) × Rose (K.fault_count sink.old) (K.fault_count sink.new) }
+    ensures failed { result.status ≡ 5 → (result.run ≡ Some run)
+        × WritesFront (K.taken sink.old) (K.taken sink.new) (run_text run)
+        × Rose (K.fault_count sink.old) (K.fault_count sink.new) }
     ensures memory { result.status ≡ 6 → (result.run ≡ None) × (sink.new ≡ sink.old) }
     ensures statuses { (result.status ≡ 0) ⊎ (result.status ≡ 5) ⊎ (result.status ≡ 6) }
     ensures later { K.fault_count sink.old ≤ K.fault_count sink.new }
@@ -54,14 +57,10 @@ pub fn run_script<S: Source, K: Sink>(
     ensures statuses { result.status ≤ 7 }
 
     // with no words each of these inputs has that status, unless the source had a fault or memory was refused
-    ensures only_long { IfSome (S.left source.old)
-        (λ input. length words.now ≡ 0 → IsTooLong input → IsStatus 7 result.status) }
-    ensures only_script { IfSome (S.left source.old)
-        (λ input. length words.now ≡ 0 → IsNoScript input → IsStatus 2 result.status) }
-    ensures only_set_up { IfSome (S.left source.old)
-        (λ input. length words.now ≡ 0 → IsSetUpRefused input → IsStatus 3 result.status) }
-    ensures complete { IfSome (S.left source.old)
-        (λ input. length words.now ≡ 0 → IsRunnable input → (result.status ≡ 5) ⊎ IsStatus 0 result.status) }
+    ensures only_long { OnInput S.Source source.old words.now IsTooLong (IsStatus 7 result.status) }
+    ensures only_script { OnInput S.Source source.old words.now IsNoScript (IsStatus 2 result.status) }
+    ensures only_set_up { OnInput S.Source source.old words.now IsSetUpRefused (IsStatus 3 result.status) }
+    ensures complete { OnInput S.Source source.old words.now IsRunnable ((result.status ≡ 5) ⊎ IsStatus 0 result.status) }
 
     // a run is there exactly at 0 and 5: the one of the script that was read; its text was written, or a front of it, and
     // nothing else

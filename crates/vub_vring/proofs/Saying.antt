@@ -127,3 +127,21 @@ counts_said wrap before now Sound Still r h = record {
 -- of several ready members the first by object number
 pub first_ready_says : (list : ℕ) (r : Result (Option Ready) HostError) (old new : HostTable) → FirstReadyCall list r old new → OnTable (said_by said.Ready r) (Some old) (Some new) (HostTableCall (host.Ready list))
 first_ready_says list r old new h = says said.Ready (λ answer a b. FirstReadyCall list answer a b) (HostTableCall (host.Ready list)) (λ x a b m. m) (λ e a b is m. m) (λ e a b m. m.1) r (Some old) (Some new) h
+
+-- what each call of a host says, as a call of the parts
+pub ruleset host_calls = (
+  create_event_says,
+  create_list_says,
+  signal_says,
+  consume_says,
+  add_says,
+  delete_says,
+  listen_says,
+  unlisten_says,
+  consume_as_says,
+  ready_says,
+  claim_says,
+  said_is,
+  counts_said,
+  no_lack,
+)

@@ -1,6 +1,6 @@
 -- What each call of `Parts` says and leaves, as a relation of what is held before and after. Each is one row of the
 -- machine's steps, or a small step of one of its parts.
-use Rattle.std.specs.Prelude.{◌≡◌, ℕ, Bool, true, false, List, Option, Result, Ok, Err}
+use Rattle.std.specs.Prelude.{◌≡◌, ◌⊎◌, ℕ, Bool, true, false, List, Option, Result, Ok, Err}
 use Rattle.vub_base.specs.Told.{Told}
 use Rattle.vub_event.specs.HostTable.{HostTable}
 use Rattle.vub_event.specs.HostCalls.{CreateEventCall, CreateListCall, SignalCall, ConsumeCall, AddCall, DeleteCall, ListenCall, UnlistenCall, ConsumeAsCall, FirstReadyCall, ClaimCall, release_after, member_for}
@@ -72,6 +72,10 @@ PutCall e reply (put_answer.Held fault) old new =
 abbrev pub PutUncalled : {V : Type 0} → Entry → List ℕ → PutSaid → Held V → Held V → Type 0
 PutUncalled e reply put_answer.Done old new = (put_said old e reply ≡ Ok true) × (new ≡ used old e reply)
 PutUncalled e reply (put_answer.Held fault) old new = ⊥
+
+-- a use whose signal is passed over where the host fails
+abbrev pub PutTried : {V : Type 0} → Type 0 → Entry → List ℕ → PutSaid → Held V → Held V → Type 0
+PutTried Rise e reply s old new = PutCall e reply s old new ⊎ (Rise × PutUncalled e reply s old new)
 
 -- `pend`: a change of a worker's pending set
 abbrev pub PendCall : {V : Type 0} → ℕ → PendOp → PendSaid → Held V → Held V → Type 0

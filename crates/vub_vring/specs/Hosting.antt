@@ -4,6 +4,9 @@ use Rattle.vub_event.specs.HostTable.{HostTable}
 use Rattle.vub_event.specs.HostCalls.{ReadyCall}
 use Rattle.vub_event.specs.declared.error.HostError.{HostError}
 use Rattle.vub_event.specs.declared.error.HostError.TheVariants as host_error
+use Rattle.vub_event.specs.declared.host.Host.{Ghosts as Host}
+use Rattle.vub_ring.specs.Faults.{CountsFaults}
+use Rattle.vub_ring.specs.Play.{OnTable}
 use Rattle.vub_ring.specs.declared.ops.PartsError.{PartsError}
 use Rattle.vub_ring.specs.declared.ops.PartsError.TheVariants as parts_error
 use Rattle.vub_vring.specs.Calls.{HostTableCall}
@@ -27,3 +30,12 @@ said_refused e = Ok (said.Refused e)
 abbrev pub said_by : {T : Type 0} → (T → HostSaid) → Result T HostError → Result HostSaid PartsError
 said_by says (Ok x) = Ok (says x)
 said_by says (Err e) = said_refused e
+
+-- the faults of a call, as this host counts them
+abbrev pub CountsOver : {H T : Type 0} → Host H → H → H → Result T PartsError → Type 0
+CountsOver h old new result =
+    CountsFaults (h.fault_count old) (h.fault_count new) (h.never_fails old) (h.never_fails new) result
+
+-- what a call says, and leaves of the table that this host tells
+abbrev pub PlaysOver : {H T : Type 0} → Host H → H → H → Result T PartsError → (T → HostTable → HostTable → Type 0) → Type 0
+PlaysOver h old new result R = OnTable result (h.held old) (h.held new) R

@@ -1,4 +1,5 @@
 pub mod Calls
 pub mod Hosting
+pub mod PartsState
 pub mod Store
 pub mod Worker

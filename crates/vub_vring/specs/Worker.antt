@@ -13,6 +13,7 @@ use Rattle.vub_model.specs.Held.{Held}
 use Rattle.vub_model.specs.Opening.{listed, opening_members}
 use Rattle.vub_ring.specs.declared.ops.PartsError.{PartsError}
 use Rattle.vub_ring.specs.declared.ops.PartsError.TheVariants as parts_error
+use Rattle.vub_vring.specs.PartsState.{PartsState}
 use Rattle.vub_vring.specs.declared.ops.HostSaid.{HostSaid}
 use Rattle.vub_vring.specs.declared.ops.HostSaid.TheVariants.{Number}
 
@@ -79,6 +80,12 @@ pub record OpensBy {T : Type 0} (before now : ℕ) (Sound StillSound : Type 0) (
   pub cause : IfErr result (IsOpeningFault before now)
   pub still : Sound → StillSound
   pub sound : Sound → IfErr result (λ e. e ≡ OutOfMemory)
+
+-- what opening a worker, or a step to it, leaves of the parts
+pub record KeepsOpening {V T : Type 0} (old new : PartsState V) (result : Result T VringEpollError) : Type 0 where
+  pub faults : OpensBy old.faults new.faults old.NeverFails new.NeverFails result
+  pub loan : new.loan ≡ old.loan
+  pub constants : new.constants ≡ old.constants
 
 -- the error for a call of the parts that was not made
 abbrev pub error_of : PartsError → VringEpollError → VringEpollError

@@ -1,9 +1,7 @@
 //! A call of a host, as the parts make it.
 ghost use Rattle.std.specs.Prelude.{◌≡◌, IfOk, IsErrOf, IsTrue};
 ghost use Rattle.vub_vring.specs.Calls.{IsSaid, takes_memory};
-ghost use Rattle.vub_ring.specs.Faults.{CountsFaults};
-ghost use Rattle.vub_ring.specs.Play.{OnTable};
-ghost use Rattle.vub_vring.specs.Hosting.{HostPlays, said_by, said_refused};
+ghost use Rattle.vub_vring.specs.Hosting.{CountsOver, PlaysOver, HostPlays, said_by, said_refused};
 
 use crate::ops::{HostOp, HostSaid};
 use std::alloc::Global;
@@ -70,12 +68,12 @@ pub(crate) fn ready(answer: Result<Option<Ready>, HostError>) -> Result<HostSaid
 /// # Errors
 /// `Fault` only where the host's count of faults rose; want of memory only for `CreateEvent`,
 /// `CreateList`, `Add` and `Listen`. Nothing changes.
-#[tactic(auto, using(crate::proofs::Saying::create_event_says, crate::proofs::Saying::create_list_says, crate::proofs::Saying::signal_says, crate::proofs::Saying::consume_says, crate::proofs::Saying::add_says, crate::proofs::Saying::delete_says, crate::proofs::Saying::listen_says, crate::proofs::Saying::unlisten_says, crate::proofs::Saying::consume_as_says, crate::proofs::Saying::ready_says, crate::proofs::Saying::claim_says, crate::proofs::Saying::said_is, crate::proofs::Saying::counts_said, crate::proofs::Saying::no_lack))]
+#[tactic(auto, using(crate::proofs::Saying::host_calls))]
 pub fn play_host<H: Host>(alloc: Global, host: &mut H, op: HostOp) -> Result<HostSaid, PartsError>
-    ensures table { OnTable result (H.held host.old) (H.held host.new) (HostPlays op) }
+    ensures table { PlaysOver H.Host host.old host.new result (HostPlays op) }
     ensures said { IfOk result IsSaid }
     ensures memory { IsErrOf result PartsError.OutOfMemory → IsTrue (takes_memory op) }
-    ensures faults { CountsFaults (H.fault_count host.old) (H.fault_count host.new) (H.never_fails host.old) (H.never_fails host.new) result }
+    ensures faults { CountsOver H.Host host.old host.new result }
 {
     match op {
         HostOp::CreateEvent(flags) => number(host.create_event(alloc, flags)),

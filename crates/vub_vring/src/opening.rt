@@ -1,9 +1,9 @@
 //! Opening a worker.
 ghost use Rattle.std.specs.Prelude.{◌≡◌, IfOk, IfErr};
 ghost use Rattle.std.specs.Option.{ForSome};
-ghost use Rattle.vub_base.specs.Told.{Told};
 ghost use Rattle.vub_model.specs.Opening.{listed};
-ghost use Rattle.vub_vring.specs.Worker.{exit_in, number_of, error_of, MakesList, MakesBell, Joins, JoinsExit, OpensFor, OpensBy, Stops, LeavesMade};
+ghost use Rattle.vub_vring.specs.Worker.{exit_in, number_of, error_of, MakesList, MakesBell, Joins, JoinsExit, OpensFor, KeepsOpening, Stops, LeavesMade};
+ghost use Rattle.vub_vring.specs.PartsState.{Tells};
 
 use crate::ops::{HostOp, HostSaid};
 use crate::parts::Parts;
@@ -48,11 +48,9 @@ fn exit_of(constants: &Constants, worker: u32) -> Option<u32>
 /// A new interest list.
 #[tactic(auto, using(crate::proofs::Working::told_list, crate::proofs::Working::opens_ok, crate::proofs::Working::opens_err, crate::proofs::Working::stops_by))]
 fn new_list<P: Parts>(alloc: Global, parts: &mut P) -> Result<u32, VringEpollError>
-    ensures told { IfOk result (λ n. Told (P.held parts.old) (P.held parts.new) (MakesList n)) }
-    ensures stops { IfErr result (Stops VringEpollError.EpollCreateFd (P.held parts.old) (P.held parts.new)) }
-    ensures faults { OpensBy (P.fault_count parts.old) (P.fault_count parts.new) (P.never_fails parts.old) (P.never_fails parts.new) result }
-    ensures loan { P.loan parts.new ≡ P.loan parts.old }
-    ensures constants { P.told_constants parts.new ≡ P.told_constants parts.old }
+    ensures told { IfOk result (λ n. Tells (P.state parts.old) (P.state parts.new) (MakesList n)) }
+    ensures stops { IfErr result (Stops VringEpollError.EpollCreateFd (P.state parts.old).held (P.state parts.new).held) }
+    ensures frame { KeepsOpening (P.state parts.old) (P.state parts.new) result }
 {
     match parts.host(alloc, HostOp::CreateList) {
         Ok(said) => Ok(number_of(said)),
@@ -63,11 +61,9 @@ fn new_list<P: Parts>(alloc: Global, parts: &mut P) -> Result<u32, VringEpollErr
 /// A new bell.
 #[tactic(auto, using(crate::proofs::Working::told_bell, crate::proofs::Working::opens_ok, crate::proofs::Working::opens_err, crate::proofs::Working::stops_by))]
 fn new_bell<P: Parts>(alloc: Global, parts: &mut P) -> Result<u32, VringEpollError>
-    ensures told { IfOk result (λ n. Told (P.held parts.old) (P.held parts.new) (MakesBell n)) }
-    ensures stops { IfErr result (Stops VringEpollError.NewEventConsumerNotifier (P.held parts.old) (P.held parts.new)) }
-    ensures faults { OpensBy (P.fault_count parts.old) (P.fault_count parts.new) (P.never_fails parts.old) (P.never_fails parts.new) result }
-    ensures loan { P.loan parts.new ≡ P.loan parts.old }
-    ensures constants { P.told_constants parts.new ≡ P.told_constants parts.old }
+    ensures told { IfOk result (λ n. Tells (P.state parts.old) (P.state parts.new) (MakesBell n)) }
+    ensures stops { IfErr result (Stops VringEpollError.NewEventConsumerNotifier (P.state parts.old).held (P.state parts.new).held) }
+    ensures frame { KeepsOpening (P.state parts.old) (P.state parts.new) result }
 {
     match parts.host(alloc, HostOp::CreateEvent(NONBLOCK)) {
         Ok(said) => Ok(number_of(said)),
@@ -84,11 +80,9 @@ fn join_exit<P: Parts>(
     exit: Option<u32>,
     token: u64,
 ) -> Result<(), VringEpollError>
-    ensures told { IfOk result (λ done. Told (P.held parts.old) (P.held parts.new) (JoinsExit list exit token)) }
-    ensures stops { IfErr result (Stops VringEpollError.RegisterExitEvent (P.held parts.old) (P.held parts.new)) }
-    ensures faults { OpensBy (P.fault_count parts.old) (P.fault_count parts.new) (P.never_fails parts.old) (P.never_fails parts.new) result }
-    ensures loan { P.loan parts.new ≡ P.loan parts.old }
-    ensures constants { P.told_constants parts.new ≡ P.told_constants parts.old }
+    ensures told { IfOk result (λ done. Tells (P.state parts.old) (P.state parts.new) (JoinsExit list exit token)) }
+    ensures stops { IfErr result (Stops VringEpollError.RegisterExitEvent (P.state parts.old).held (P.state parts.new).held) }
+    ensures frame { KeepsOpening (P.state parts.old) (P.state parts.new) result }
 {
     match exit {
         None => Ok(()),
@@ -108,11 +102,9 @@ fn join_bell<P: Parts>(
     bell: u32,
     token: u64,
 ) -> Result<(), VringEpollError>
-    ensures told { IfOk result (λ done. Told (P.held parts.old) (P.held parts.new) (Joins list (listed bell token))) }
-    ensures stops { IfErr result (Stops VringEpollError.RegisterVringEnabledEvent (P.held parts.old) (P.held parts.new)) }
-    ensures faults { OpensBy (P.fault_count parts.old) (P.fault_count parts.new) (P.never_fails parts.old) (P.never_fails parts.new) result }
-    ensures loan { P.loan parts.new ≡ P.loan parts.old }
-    ensures constants { P.told_constants parts.new ≡ P.told_constants parts.old }
+    ensures told { IfOk result (λ done. Tells (P.state parts.old) (P.state parts.new) (Joins list (listed bell token))) }
+    ensures stops { IfErr result (Stops VringEpollError.RegisterVringEnabledEvent (P.state parts.old).held (P.state parts.new).held) }
+    ensures frame { KeepsOpening (P.state parts.old) (P.state parts.new) result }
 {
     match parts.host(alloc, HostOp::Add(list, bell, EventSet::IN, token)) {
         Ok(_) => Ok(()),
@@ -133,11 +125,12 @@ pub fn open_worker<P: Parts>(
     worker: u32,
 ) -> Result<Opened, VringEpollError>
     ensures worker { IfOk result (λ opened. opened.worker ≡ worker) }
-    ensures told { IfOk result (λ opened. ForSome (P.told_constants parts.old) (λ constants. OpensFor constants worker opened (P.held parts.old) (P.held parts.new))) }
-    ensures stopped { IfErr result (λ e. ForSome (P.told_constants parts.old) (λ constants. Told (P.held parts.old) (P.held parts.new) (LeavesMade constants.queues (exit_in constants worker) e))) }
-    ensures faults { OpensBy (P.fault_count parts.old) (P.fault_count parts.new) (P.never_fails parts.old) (P.never_fails parts.new) result }
-    ensures loan { P.loan parts.new ≡ P.loan parts.old }
-    ensures constants { P.told_constants parts.new ≡ P.told_constants parts.old }
+    ensures told { IfOk result (λ opened. ForSome (P.state parts.old).constants
+        (λ constants. OpensFor constants worker opened (P.state parts.old).held (P.state parts.new).held)) }
+    ensures stopped { IfErr result (λ e. ForSome (P.state parts.old).constants
+        (λ constants. Tells (P.state parts.old) (P.state parts.new)
+        (LeavesMade constants.queues (exit_in constants worker) e))) }
+    ensures frame { KeepsOpening (P.state parts.old) (P.state parts.new) result }
 {
     let Ok(constants) = parts.constants(alloc) else {
         return Err(VringEpollError::OutOfMemory);

@@ -23,15 +23,13 @@ pub struct OwnedParts<'a, L: DirtyLog, V> {
 impl<'a, L: DirtyLog, V: Service> Parts for OwnedParts<'a, L, V> {
     type Service = V;
 
-    ghost held = { λ p. Some (held_of p.store.now p.service.now) };
-
-    ghost loan = { λ p. (p.store.ghost_name, p.service.ghost_name) };
-
-    ghost fault_count = { λ p. p.store.now.host.plan.faults };
-
-    ghost never_fails = { λ p. p.store.now.host.plan.calls.items ≡ [] };
-
-    ghost told_constants = { λ p. Some p.constants.now };
+    ghost state = { λ p. record {
+      held = Some (held_of p.store.now p.service.now);
+      faults = p.store.now.host.plan.faults;
+      NeverFails = p.store.now.host.plan.calls.items ≡ [];
+      loan = (p.store.ghost_name, p.service.ghost_name);
+      constants = Some p.constants.now;
+    } };
 
     fn faults(&self) -> u64 {
         self.store.host.faults()

@@ -1,12 +1,9 @@
-ghost use Rattle.std.specs.Prelude.{◌≡◌, ◌≤◌, ◌⊎◌, ℕ, Option, length, sum_by, IfOk, IsErrOf, IsTrue};
-ghost use Rattle.vub_base.specs.Causes.{Rose};
+ghost use Rattle.std.specs.Prelude.{◌≡◌, ◌≤◌, ℕ, length, sum_by, IfOk, IsErrOf, IsTrue};
 ghost use Rattle.std.specs.Option.{ForSome};
-ghost use Rattle.vub_model.specs.declared.constants.Constants.{Constants};
-ghost use Rattle.vub_model.specs.Held.{Held};
 ghost use Rattle.vub_model.specs.Service.{meaning};
 ghost use Rattle.vub_ring.specs.Play.{HasRoom, inserts};
-ghost use Rattle.vub_vring.specs.Calls.{Called, RingCall, TableRingCall, KickCall, PutCall, PutUncalled, PendCall, ServiceCall, HostCall, IsSaid, takes_memory};
-ghost use Rattle.vub_ring.specs.Faults.{CountsFaults};
+ghost use Rattle.vub_vring.specs.Calls.{RingCall, TableRingCall, KickCall, PutCall, PutTried, PendCall, ServiceCall, HostCall, IsSaid, takes_memory};
+ghost use Rattle.vub_vring.specs.PartsState.{PartsState, HasFailed, IsCall, Keeps, IsUntouched};
 
 use crate::ops::{HostOp, HostSaid};
 use std::alloc::Global;
@@ -24,35 +21,21 @@ use vub_ring::{KickSaid, PartsError, PendOp, PendSaid, PutSaid, TableRing, Table
 pub trait Parts {
     type Service: Service;
 
-    // what is held, where it is told
-    ghost held: { Self → Option (Held Self.Service) };
-
-    // what is lent: no call changes it
-    ghost loan: { Self → ℕ × ℕ };
-
-    // how many calls of the host have failed
-    ghost fault_count: { Self → ℕ };
-
-    // the host has no call that is to fail
-    ghost never_fails: { Self → Type 0 };
-
-    // the device's constants, where they are told; no call changes them
-    ghost told_constants: { Self → Option Constants };
+    // what they tell of themselves; no call changes what is lent or the constants
+    ghost state: { Self → PartsState Self.Service };
 
     /// How many calls of the host have failed. The count never falls.
     fn faults(&self) -> u64
-        ensures { result ≡ fault_count self.now };
+        ensures { result ≡ (state self.now).faults };
 
     /// Applies an op to a ring (`VringState` of the Rust crate `vhost-user-backend`).
     ///
     /// # Errors
     /// Want of memory.
     fn ring(&mut self, alloc: Global, queue: u32, op: RingOp) -> Result<RingSaid, PartsError>
-        ensures row { Called result (held self.old) (held self.new) (RingCall queue op) }
+        ensures row { IsCall (state self.old) (state self.new) result (RingCall queue op) }
         ensures only { ¬ (IsErrOf result PartsError.Fault) }
-        ensures faults { CountsFaults (fault_count self.old) (fault_count self.new) (never_fails self.old) (never_fails self.new) result }
-        ensures loan { loan self.new ≡ loan self.old }
-        ensures constants { told_constants self.new ≡ told_constants self.old };
+        ensures frame { Keeps (state self.old) (state self.new) result };
 
     /// Takes the next entry of a ring that is ready and enabled, has its addresses and no entry in flight.
     ///
@@ -64,23 +47,19 @@ pub trait Parts {
         queue: u32,
         op: TableRing,
     ) -> Result<TableRingSaid, PartsError>
-        ensures row { Called result (held self.old) (held self.new) (TableRingCall queue op) }
+        ensures row { IsCall (state self.old) (state self.new) result (TableRingCall queue op) }
         ensures room { IfOk result HasRoom }
         ensures only { ¬ (IsErrOf result PartsError.Fault) }
-        ensures faults { CountsFaults (fault_count self.old) (fault_count self.new) (never_fails self.old) (never_fails self.new) result }
-        ensures loan { loan self.new ≡ loan self.old }
-        ensures constants { told_constants self.new ≡ told_constants self.old };
+        ensures frame { Keeps (state self.old) (state self.new) result };
 
     /// Reads the counter of this event, if it is the kick of the ring.
     ///
     /// # Errors
     /// A fault of the host.
     fn ring_host(&mut self, alloc: Global, queue: u32, object: u32) -> Result<KickSaid, PartsError>
-        ensures row { Called result (held self.old) (held self.new) (KickCall queue object) }
+        ensures row { IsCall (state self.old) (state self.new) result (KickCall queue object) }
         ensures only { ¬ (IsErrOf result PartsError.OutOfMemory) }
-        ensures faults { CountsFaults (fault_count self.old) (fault_count self.new) (never_fails self.old) (never_fails self.new) result }
-        ensures loan { loan self.new ≡ loan self.old }
-        ensures constants { told_constants self.new ≡ told_constants self.old };
+        ensures frame { Keeps (state self.old) (state self.new) result };
 
     /// Uses the entry with this reply, and signals the call of its ring where the driver wants it; or holds the entry,
     /// where a byte of the use is outside guest memory. A signal at which the host fails is passed over.
@@ -97,58 +76,49 @@ pub trait Parts {
         requires queue { queue ≡ entry.now.queue }
         requires fits { length reply.now ≤ entry.now.chain.room }
         requires room { entry.now.chain.room ≡ sum_by (λ s. s.len) entry.now.chain.segments }
-        ensures row { Called result (held self.old) (held self.new) (λ s old new. PutCall entry.now reply.now s old new ⊎ (Rose (fault_count self.old) (fault_count self.new) × PutUncalled entry.now reply.now s old new)) }
-        ensures sound { never_fails self.old → Called result (held self.old) (held self.new) (PutCall entry.now reply.now) }
+        ensures row { IsCall (state self.old) (state self.new) result
+            (PutTried (HasFailed (state self.old) (state self.new)) entry.now reply.now) }
+        ensures sound { (state self.old).NeverFails
+            → IsCall (state self.old) (state self.new) result (PutCall entry.now reply.now) }
         ensures only { ¬ (IsErrOf result PartsError.Fault) }
-        ensures faults { CountsFaults (fault_count self.old) (fault_count self.new) (never_fails self.old) (never_fails self.new) result }
-        ensures loan { loan self.new ≡ loan self.old }
-        ensures constants { told_constants self.new ≡ told_constants self.old };
+        ensures frame { Keeps (state self.old) (state self.new) result };
 
     /// Makes this call of the host.
     ///
     /// # Errors
     /// A fault of the host; want of memory only for `CreateEvent`, `CreateList`, `Add` and `Listen`.
     fn host(&mut self, alloc: Global, op: HostOp) -> Result<HostSaid, PartsError>
-        ensures row { Called result (held self.old) (held self.new) (HostCall op) }
+        ensures row { IsCall (state self.old) (state self.new) result (HostCall op) }
         ensures said { IfOk result IsSaid }
         ensures memory { IsErrOf result PartsError.OutOfMemory → IsTrue (takes_memory op) }
-        ensures faults { CountsFaults (fault_count self.old) (fault_count self.new) (never_fails self.old) (never_fails self.new) result }
-        ensures loan { loan self.new ≡ loan self.old }
-        ensures constants { told_constants self.new ≡ told_constants self.old };
+        ensures frame { Keeps (state self.old) (state self.new) result };
 
     /// Changes a worker's pending set.
     ///
     /// # Errors
     /// Want of memory, at an `Insert` alone.
     fn pend(&mut self, alloc: Global, worker: u32, op: PendOp) -> Result<PendSaid, PartsError>
-        ensures row { Called result (held self.old) (held self.new) (PendCall worker op) }
+        ensures row { IsCall (state self.old) (state self.new) result (PendCall worker op) }
         ensures memory { IsErrOf result PartsError.OutOfMemory → IsTrue (inserts op) }
         ensures only { ¬ (IsErrOf result PartsError.Fault) }
-        ensures faults { CountsFaults (fault_count self.old) (fault_count self.new) (never_fails self.old) (never_fails self.new) result }
-        ensures loan { loan self.new ≡ loan self.old }
-        ensures constants { told_constants self.new ≡ told_constants self.old };
+        ensures frame { Keeps (state self.old) (state self.new) result };
 
     /// Asks the service for the reply to the entry.
     ///
     /// # Errors
     /// Want of memory.
     fn service(&mut self, alloc: Global, entry: &Entry) -> Result<Bytes, PartsError>
-        ensures row { Called result (held self.old) (held self.new) (ServiceCall (meaning Self.Service.reply_of Self.Service.after) entry.now) }
+        ensures row { IsCall (state self.old) (state self.new) result
+            (ServiceCall (meaning Self.Service.reply_of Self.Service.after) entry.now) }
         ensures fits { IfOk result (λ reply. length reply ≤ entry.now.chain.room) }
         ensures only { ¬ (IsErrOf result PartsError.Fault) }
-        ensures faults { CountsFaults (fault_count self.old) (fault_count self.new) (never_fails self.old) (never_fails self.new) result }
-        ensures loan { loan self.new ≡ loan self.old }
-        ensures constants { told_constants self.new ≡ told_constants self.old };
+        ensures frame { Keeps (state self.old) (state self.new) result };
 
     /// The device's constants.
     ///
     /// # Errors
     /// Want of memory.
     fn constants(&mut self, alloc: Global) -> Result<Constants, OutOfMemory>
-        ensures ok { IfOk result (λ c. ForSome (told_constants self.old) (λ told. c ≡ told)) }
-        ensures held { held self.new ≡ held self.old }
-        ensures faults { fault_count self.new ≡ fault_count self.old }
-        ensures still { never_fails self.old → never_fails self.new }
-        ensures loan { loan self.new ≡ loan self.old }
-        ensures constants { told_constants self.new ≡ told_constants self.old };
+        ensures ok { IfOk result (λ c. ForSome (state self.old).constants (λ told. c ≡ told)) }
+        ensures same { IsUntouched (state self.old) (state self.new) };
 }

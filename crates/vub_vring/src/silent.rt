@@ -20,15 +20,13 @@ pub(crate) struct SilentParts<'a, L: DirtyLog, V> {
 impl<'a, L: DirtyLog, V: Service> Parts for SilentParts<'a, L, V> {
     type Service = V;
 
-    ghost held = { λ _. None };
-
-    ghost loan = { λ _. (0, 0) };
-
-    ghost fault_count = { λ p. p.inner.store.now.host.plan.faults };
-
-    ghost never_fails = { λ p. ⊥ };
-
-    ghost told_constants = { λ _. None };
+    ghost state = { λ p. record {
+      held = None;
+      faults = p.inner.store.now.host.plan.faults;
+      NeverFails = ⊥;
+      loan = (0, 0);
+      constants = None;
+    } };
 
     fn faults(&self) -> u64 {
         self.inner.faults()

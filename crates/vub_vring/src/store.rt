@@ -6,6 +6,7 @@ ghost use Rattle.vub_ring.specs.Play.{HasRoom};
 ghost use Rattle.vub_vring.specs.Calls.{HostTableCall, IsSaid, takes_memory};
 ghost use Rattle.vub_ring.specs.Faults.{CountsFaults};
 ghost use Rattle.vub_ring.specs.Play.{OnTable, KickTable, kick_said, put_found, table_marks, use_marks, PutTable, table_put, PendPlays, inserts};
+ghost use Rattle.vub_vring.specs.Hosting.{CountsOver, PlaysOver};
 ghost use Rattle.vub_vring.specs.Store.{ring_in, left_by, TakesAt, PutsAt, PendsAt};
 
 use crate::hosting::{play_host, ready};
@@ -92,8 +93,8 @@ pub(crate) fn kick_at<H: Host>(
 ) -> Result<KickSaid, PartsError>
     ensures said { IfOk result (λ said. said ≡ kick_said (ring_in rings.old.items queue) object) }
     ensures rings { rings.new.items ≡ rings.old.items }
-    ensures table { OnTable result (H.held host.old) (H.held host.new) (KickTable object) }
-    ensures faults { CountsFaults (H.fault_count host.old) (H.fault_count host.new) (H.never_fails host.old) (H.never_fails host.new) result }
+    ensures table { PlaysOver H.Host host.old host.new result (KickTable object) }
+    ensures faults { CountsOver H.Host host.old host.new result }
     ensures only { ¬ (IsErrOf result PartsError.OutOfMemory) }
 {
     match rings.get_mut(queue as usize) {
@@ -123,7 +124,7 @@ pub(crate) fn put_at<L: DirtyLog, H: Host>(
     ensures guest { OnErr result (memory.new.guest ≡ memory.old.guest) }
     ensures host { OnErr result (host.new ≡ host.old) }
     ensures only { ¬ (IsErrOf result PartsError.Fault) }
-    ensures faults { CountsFaults (H.fault_count host.old) (H.fault_count host.new) (H.never_fails host.old) (H.never_fails host.new) result }
+    ensures faults { CountsOver H.Host host.old host.new result }
 {
     match rings.get_mut(entry.queue as usize) {
         Some(ring) => play_put(alloc, ring, memory, host, entry, reply),
