@@ -8,7 +8,7 @@ use Rattle.vub_event.specs.declared.error.HostError.TheVariants.{EBADF, WouldBlo
 use Rattle.vub_event.specs.Counter.{write_refusal, written, greatest_count}
 use Rattle.vub_event.specs.HostTable.{HostTable, event_at, with_event}
 use Rattle.vub_event.specs.HostCalls.{due_of, with_change, claim_refusal, claim_after, claimed_by, signal_refusal, signal_after}
-use Rattle.vub_model.specs.Held.{raised_event, raised_option}
+use Rattle.vub_model.specs.Shared.{raised_event, raised_option}
 use Rattle.vub_model.specs.Opening.{claimed_event}
 
 claim_with : (t : HostTable) (o q : ℕ) (test : Event → Option HostError) (e : Option Event) → due_of test e ≡ None → with_change (claimed_by (Some q)) t o e ≡ with_event t o (claimed_event q e)

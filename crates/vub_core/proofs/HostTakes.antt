@@ -17,7 +17,7 @@ use Rattle.vub_model.specs.declared.setup.Setup.{Setup}
 use Rattle.vub_model.specs.declared.wiring.Opened.{Opened}
 use Rattle.vub_model.specs.declared.wiring.Place.{Place}
 use Rattle.vub_model.specs.Frame.{claim_of}
-use Rattle.vub_model.specs.Held.{Held, count_of, count_at, raised, raised_option, inserted}
+use Rattle.vub_model.specs.Shared.{Shared, count_of, count_at, raised, raised_option, inserted}
 use Rattle.vub_model.specs.Opening.{flags_of, opening_events, opened_worker, wiring_of, listed, exit_member, opening_members, claimed_event, claimed, joined, placed, registered_kick, registered, opening_table, before_rings}
 use Rattle.vub_model.specs.Schedule.{is_member}
 use Rattle.vub_model.specs.ValidSetup.{is_event_or_none, is_free_or_none, fault_of}
@@ -133,7 +133,7 @@ module _ (k : Constants) (objects : List Object) where
 
   -- How the events and the lists stand once these rings are registered: an object is claimed only as a kick of them, and
   -- is a member only as a bell, an exit object or such a kick; and no count is above their number.
-  pub record Stands {V : Type 0} (n : ℕ) (done : List GivenRing) (h : Held V) : Type 0 where
+  pub record Stands {V : Type 0} (n : ℕ) (done : List GivenRing) (h : Shared V) : Type 0 where
     pub objects_size : length h.table.objects ≡ count + workers
     pub lists_size : length h.table.lists ≡ workers
     pub some : (o : ℕ) → o < count + workers → is_some (event_at h.table o) ≡ true
@@ -149,7 +149,7 @@ module _ (k : Constants) (objects : List Object) where
   wider-member done r w o (inr (inl exit)) = inr (inl exit)
   wider-member done r w o (inr (inr old)) = inr (inr (wider done r o old))
 
-  pass : {V : Type 0} (n : ℕ) (done : List GivenRing) (h : Held V) (r : GivenRing) → Stands n done h → Stands (n + 1) (done ++ r ∷ []) h
+  pass : {V : Type 0} (n : ℕ) (done : List GivenRing) (h : Shared V) (r : GivenRing) → Stands n done h → Stands (n + 1) (done ++ r ∷ []) h
   pass n done h r s = record {
     objects_size = s.objects_size;
     lists_size = s.lists_size;
@@ -159,7 +159,7 @@ module _ (k : Constants) (objects : List Object) where
     counts = λ o. (let old = s.counts o in omega arith);
   }
 
-  up : {V : Type 0} (n : ℕ) (done : List GivenRing) (h : Held V) → Stands n done h → Stands (n + 1) done h
+  up : {V : Type 0} (n : ℕ) (done : List GivenRing) (h : Shared V) → Stands n done h → Stands (n + 1) done h
   up n done h s = record {
     objects_size = s.objects_size;
     lists_size = s.lists_size;
@@ -169,7 +169,7 @@ module _ (k : Constants) (objects : List Object) where
     counts = λ o. (let old = s.counts o in omega arith);
   }
 
-  module _ {V : Type 0} (n : ℕ) (done : List GivenRing) (h : Held V) (s : Stands n done h) (r : GivenRing) (o : ℕ) (kick : r.kick ≡ Some o) where
+  module _ {V : Type 0} (n : ℕ) (done : List GivenRing) (h : Shared V) (s : Stands n done h) (r : GivenRing) (o : ℕ) (kick : r.kick ≡ Some o) where
     -- the kick is claimed
     claim-stands : o < count → Stands n (done ++ r ∷ []) (claimed h o r.queue)
     claim-stands below = record {
@@ -195,11 +195,11 @@ module _ (k : Constants) (objects : List Object) where
       away : (x : ℕ) → (x ≡ o → ⊥) → event_at (claimed h o r.queue).table x ≡ event_at h.table x
       away x other = get_or-set_other h.table.objects o x (claimed_event r.queue (event_at h.table o)) None other
 
-  abbrev with-kick : {V : Type 0} → Held V → ℕ → ℕ → ℕ → Held V
+  abbrev with-kick : {V : Type 0} → Shared V → ℕ → ℕ → ℕ → Shared V
   with-kick h o w number = raised (inserted (joined h w o number) w number) (count + w)
 
   -- the kick joins its worker's list, its number is pending, and the bell is rung
-  join-stands : {V : Type 0} (n : ℕ) (done : List GivenRing) (h : Held V) → Stands n done h → (o w number : ℕ) → w < workers → Kicks done o → Stands (n + 1) done (with-kick h o w number)
+  join-stands : {V : Type 0} (n : ℕ) (done : List GivenRing) (h : Shared V) → Stands n done h → (o w number : ℕ) → w < workers → Kicks done o → Stands (n + 1) done (with-kick h o w number)
   join-stands {V} n done h s o w number low is_kick = record {
     objects_size = length-set h.table.objects (count + w) (raised_option (event_at h.table (count + w))) ∙ s.objects_size;
     lists_size = length-set h.table.lists w (with_member (members_at h.table w) (listed o number)) ∙ s.lists_size;
@@ -237,7 +237,7 @@ module _ (k : Constants) (objects : List Object) where
 
   -- A ring that is to be registered
 
-  module _ {V : Type 0} (n : ℕ) (done : List GivenRing) (h : Held V) (s : Stands n done h) (few : n < 2 ^ 63) (r : GivenRing) (sound : SoundRing k objects done r) where
+  module _ {V : Type 0} (n : ℕ) (done : List GivenRing) (h : Shared V) (s : Stands n done h) (few : n < 2 ^ 63) (r : GivenRing) (sound : SoundRing k objects done r) where
     module _ (o : ℕ) (kick : r.kick ≡ Some o) where
       below : o < count
       below = object-below objects o (ap (is_event_or_none objects) (sym kick) ∙ sound.kick)
@@ -293,13 +293,13 @@ module _ (k : Constants) (objects : List Object) where
     kick-stands : (kick : Option ℕ) → r.kick ≡ kick → Stands (n + 1) (done ++ r ∷ []) (registered_kick g h r kick)
     kick-stands None is = pass n done h r s
     kick-stands (Some o) is =
-        elim (r.ready && r.enabled) as (λ b. Stands (n + 1) (done ++ r ∷ []) (cond {A = Held V} b (placed g (claimed h o r.queue) o (place_of g r.queue)) (claimed h o r.queue))) [
+        elim (r.ready && r.enabled) as (λ b. Stands (n + 1) (done ++ r ∷ []) (cond {A = Shared V} b (placed g (claimed h o r.queue) o (place_of g r.queue)) (claimed h o r.queue))) [
           | true ↦ placed-stands o is (place_of g r.queue) refl
           | false ↦ up n (done ++ r ∷ []) (claimed h o r.queue) (claims-on o is)
         ]
 
   -- the host takes the calls of each ring
-  all-taken : {V : Type 0} (n : ℕ) (done rest : List GivenRing) (h : Held V) → Stands n done h → SoundRings k objects done rest → n + length rest < 2 ^ 63 → AreTaken k count h rest
+  all-taken : {V : Type 0} (n : ℕ) (done rest : List GivenRing) (h : Shared V) → Stands n done h → SoundRings k objects done rest → n + length rest < 2 ^ 63 → AreTaken k count h rest
   all-taken n done [] h s sound few = tt
   all-taken n done (r ∷ rest) h s sound few =
       let one = sound_ring k objects done r sound.0 in

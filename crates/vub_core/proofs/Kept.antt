@@ -5,11 +5,11 @@ use Rattle.vub_model.specs.declared.entry.Entry.{Entry}
 use Rattle.vub_model.specs.declared.label.Label.{Label}
 use Rattle.vub_model.specs.declared.label.Label.TheVariants as label
 use Rattle.vub_model.specs.declared.phase.Phase.{Phase}
-use Rattle.vub_model.specs.Held.{Held}
+use Rattle.vub_model.specs.Shared.{Shared}
 use Rattle.vub_model.specs.Service.{Meaning}
 use Rattle.vub_model.specs.Wiring.{Wiring}
 use Rattle.vub_model.specs.Work.{Local, MayWork, after_work, after_take, after_said, called, used, put_said}
-use Rattle.vub_model.proofs.Cases.{work-cases, event-held, take-leaf, none-leaf}
+use Rattle.vub_model.proofs.Cases.{work-cases, event-shared, take-leaf, none-leaf}
 use Rattle.vub_loop.specs.declared.handler.VringEpollHandler.{VringEpollHandler}
 use Rattle.vub_loop.specs.Finished.{finished_by}
 use Rattle.vub_loop.specs.Handler.{IsHandler, SameWorker}
@@ -18,40 +18,40 @@ use Rattle.vub_core.specs.Workers.{AreHandlers}
 
 -- The service
 
-abbrev Keeps : {V : Type 0} → Held V → Local V → Type 0
-Keeps old l = l.held.service ≡ old.service
+abbrev Keeps : {V : Type 0} → Shared V → Local V → Type 0
+Keeps old l = l.shared.service ≡ old.service
 
-take-keeps : {V : Type 0} (old : Held V) (queues : List ℕ) → Keeps old (after_take old queues)
+take-keeps : {V : Type 0} (old : Shared V) (queues : List ℕ) → Keeps old (after_take old queues)
 take-keeps old [] = refl
 take-keeps {V} old (q ∷ rest) =
-    take-leaf old (λ l. Keeps old l) q rest (λ c is. refl) (λ is. none-leaf old (λ (h : Held V). h.service ≡ old.service) q (λ live. refl) (λ dead. refl)) (λ d is. refl)
+    take-leaf old (λ l. Keeps old l) q rest (λ c is. refl) (λ is. none-leaf old (λ (h : Shared V). h.service ≡ old.service) q (λ live. refl) (λ dead. refl)) (λ d is. refl)
 
-called-keeps : {V : Type 0} (h : Held V) (call : Option ℕ) (wanted : Bool) → (called h call wanted).service ≡ h.service
+called-keeps : {V : Type 0} (h : Shared V) (call : Option ℕ) (wanted : Bool) → (called h call wanted).service ≡ h.service
 called-keeps h call false = refl
 called-keeps h None true = refl
 called-keeps h (Some object) true = refl
 
-said-keeps : {V : Type 0} (old : Held V) (e : Entry) (reply queues : List ℕ) (said : Result Bool PutFault) → Keeps old (after_said old e reply queues said)
+said-keeps : {V : Type 0} (old : Shared V) (e : Entry) (reply queues : List ℕ) (said : Result Bool PutFault) → Keeps old (after_said old e reply queues said)
 said-keeps old e reply queues (Ok wanted) = called-keeps (used old e reply) _ wanted
 said-keeps old e reply queues (Err fault) = refl
 
 -- a step that records a take or a use leaves the service
-work-keeps : {V : Type 0} (m : Meaning V) (g : Wiring) (k : ℕ) (old : Held V) (now before : Phase) (l : Label) → MayWork g k old before l → (l ≡ label.Take) ⊎ IsSome (finished_by l before now) → Keeps old (after_work m g k old before l)
+work-keeps : {V : Type 0} (m : Meaning V) (g : Wiring) (k : ℕ) (old : Shared V) (now before : Phase) (l : Label) → MayWork g k old before l → (l ≡ label.Take) ⊎ IsSome (finished_by l before now) → Keeps old (after_work m g k old before l)
 work-keeps {V} m g k old now before l may =
     work-cases g k old (λ phase l. (l ≡ label.Take) ⊎ IsSome (finished_by l phase now) → Keeps old (after_work m g k old phase l))
     (λ object ready cause. refl)
-    (λ object token cause. event-held g k old (λ (h : Held V). h.service ≡ old.service) object token refl (λ o. refl))
+    (λ object token cause. event-shared g k old (λ (h : Shared V). h.service ≡ old.service) object token refl (λ o. refl))
     (λ cause. refl)
     (λ queues cause. take-keeps old queues)
     (λ e queues cause. elim cause [ inl take ↦ absurd cc | inr some ↦ (let bad : false ≡ true = some in absurd cc) ])
     (λ e reply queues cause. said-keeps old e reply queues (put_said old e reply))
     before l may
 
-row-keeps : {V : Type 0} (m : Meaning V) (g : Wiring) (k : ℕ) (old new : Held V) (now before : Phase) (l : Label) → MayWork g k old before l → record { held = new; phase = now } ≡ after_work m g k old before l → (l ≡ label.Take) ⊎ IsSome (finished_by l before now) → new.service ≡ old.service
-row-keeps {V} m g k old new now before l may row cause = ap (λ (x : Local V). x.held.service) row ∙ work-keeps m g k old now before l may cause
+row-keeps : {V : Type 0} (m : Meaning V) (g : Wiring) (k : ℕ) (old new : Shared V) (now before : Phase) (l : Label) → MayWork g k old before l → record { shared = new; phase = now } ≡ after_work m g k old before l → (l ≡ label.Take) ⊎ IsSome (finished_by l before now) → new.service ≡ old.service
+row-keeps {V} m g k old new now before l may row cause = ap (λ (x : Local V). x.shared.service) row ∙ work-keeps m g k old now before l may cause
 
-pub turn-keeps : {V : Type 0} (m : Meaning V) (g : Wiring) (k : ℕ) (old new : Held V) (now before : Phase) (l : Label) → Turns m g k l before now old new → (l ≡ label.Take) ⊎ IsSome (finished_by l before now) → new.service ≡ old.service
-turn-keeps {V} m g k old new now before label.Pass row cause = ap (λ (h : Held V). h.service) row.1
+pub turn-keeps : {V : Type 0} (m : Meaning V) (g : Wiring) (k : ℕ) (old new : Shared V) (now before : Phase) (l : Label) → Turns m g k l before now old new → (l ≡ label.Take) ⊎ IsSome (finished_by l before now) → new.service ≡ old.service
+turn-keeps {V} m g k old new now before label.Pass row cause = ap (λ (h : Shared V). h.service) row.1
 turn-keeps m g k old new now before label.Guest row cause = row-keeps m g k old new now before label.Guest row.0 row.1 cause
 turn-keeps m g k old new now before (label.Poll object) row cause = row-keeps m g k old new now before (label.Poll object) row.0 row.1 cause
 turn-keeps m g k old new now before label.Event row cause = row-keeps m g k old new now before label.Event row.0 row.1 cause

@@ -38,7 +38,7 @@ played-more {V} m schedule labels next-labels w z end index d l within so turn l
 pub played-all : {V : Type 0} (m : Meaning V) (schedule : List ℕ) (labels : List Label) (w z : World V) (index : ℕ) → length schedule ≤ index → HasPlayed m (take index schedule) labels w z → HasPlayed m schedule labels w z
 played-all {V} m schedule labels w z index past so = let P : List ℕ → Type 0 = λ ts. HasPlayed m ts labels w z in subst P (take_all index schedule past) so
 
-pub cut-short : {V : Type 0} (m : Meaning V) (schedule : List ℕ) (labels now : List Label) (w z : World V) (index : ℕ) (end : V) → index ≤ length schedule → length labels ≡ index → HasPlayed m (take index schedule) labels w z → now ≡ labels → end ≡ z.held.service → WasCutShort m schedule now w end
+pub cut-short : {V : Type 0} (m : Meaning V) (schedule : List ℕ) (labels now : List Label) (w z : World V) (index : ℕ) (end : V) → index ≤ length schedule → length labels ≡ index → HasPlayed m (take index schedule) labels w z → now ≡ labels → end ≡ z.shared.service → WasCutShort m schedule now w end
 cut-short {V} m schedule labels now w z index end within count so same value =
     let P : List Label → Type 0 = λ ls. WasCutShort m schedule ls w end in
     subst P (sym same) (record {

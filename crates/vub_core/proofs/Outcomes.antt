@@ -11,7 +11,7 @@ use Rattle.vub_model.specs.declared.setup.Setup.{Setup}
 use Rattle.vub_model.specs.RingRecord.{limit}
 use Rattle.vub_model.specs.declared.setup.GivenRing.{GivenRing}
 use Rattle.vub_model.specs.declared.wiring.Place.{Place}
-use Rattle.vub_model.specs.Held.{Held}
+use Rattle.vub_model.specs.Shared.{Shared}
 use Rattle.vub_model.specs.Wiring.{Wiring, place_of}
 use Rattle.vub_model.specs.Opening.{opening, before_rings, wiring_of, registered, registered_kick, placed, claimed}
 use Rattle.vub_model.specs.RunOf.{IsRun, PollsLeast}
@@ -30,26 +30,26 @@ use Rattle.vub_core.specs.Refused.{IsRefusal}
 
 -- the opening has the service that it is given
 
-placed-service : {V : Type 0} (g : Wiring) (h : Held V) (kick : ℕ) (place : Option Place) → (placed g h kick place).service ≡ h.service
+placed-service : {V : Type 0} (g : Wiring) (h : Shared V) (kick : ℕ) (place : Option Place) → (placed g h kick place).service ≡ h.service
 placed-service g h kick None = refl
 placed-service g h kick (Some p) = refl
 
-kick-service : {V : Type 0} (g : Wiring) (h : Held V) (r : GivenRing) (kick : Option ℕ) → (registered_kick g h r kick).service ≡ h.service
+kick-service : {V : Type 0} (g : Wiring) (h : Shared V) (r : GivenRing) (kick : Option ℕ) → (registered_kick g h r kick).service ≡ h.service
 kick-service g h r None = refl
 kick-service {V} g h r (Some kick) =
-    cond_both {A = Held V} (r.ready && r.enabled) (placed g (claimed h kick r.queue) kick (place_of g r.queue)) (claimed h kick r.queue) (λ x. x.service ≡ h.service) (λ on. placed-service g (claimed h kick r.queue) kick (place_of g r.queue)) (λ off. refl)
+    cond_both {A = Shared V} (r.ready && r.enabled) (placed g (claimed h kick r.queue) kick (place_of g r.queue)) (claimed h kick r.queue) (λ x. x.service ≡ h.service) (λ on. placed-service g (claimed h kick r.queue) kick (place_of g r.queue)) (λ off. refl)
 
-rings-service : {V : Type 0} (g : Wiring) (rings : List GivenRing) (h : Held V) → (fold (λ h r. registered g h r) h rings).service ≡ h.service
+rings-service : {V : Type 0} (g : Wiring) (rings : List GivenRing) (h : Shared V) → (fold (λ h r. registered g h r) h rings).service ≡ h.service
 rings-service g [] h = refl
 rings-service g (r ∷ rings) h = rings-service g rings (registered g h r) ∙ kick-service g h r r.kick
 
-pub opening-service : {V : Type 0} (k : Constants) (setup : Setup) (v : V) → (opening k setup v).held.service ≡ v
+pub opening-service : {V : Type 0} (k : Constants) (setup : Setup) (v : V) → (opening k setup v).shared.service ≡ v
 unfolding opening
 opening-service k setup v = rings-service (wiring_of k (length setup.objects)) setup.rings (before_rings k setup v)
 
 module _ {V : Type 0} (m : Meaning V) (k : Constants) (setup : Setup) (v : V) where
   -- the headline
-  pub all-played : (schedule : List ℕ) (labels : List Label) (closing : World V) (end : V) (run : Run) → IsValid k setup → length schedule < limit → HasPlayed m schedule labels (opening k setup v) closing → end ≡ closing.held.service → Shows setup.objects labels closing run → IsPlayed m k setup schedule v end run
+  pub all-played : (schedule : List ℕ) (labels : List Label) (closing : World V) (end : V) (run : Run) → IsValid k setup → length schedule < limit → HasPlayed m schedule labels (opening k setup v) closing → end ≡ closing.shared.service → Shows setup.objects labels closing run → IsPlayed m k setup schedule v end run
   all-played schedule labels closing end run valid short so value shows =
       let H : List Label → Type 0 = λ ls. HasPlayed m schedule ls (opening k setup v) closing in
       let S : List Label → Type 0 = λ ls. Shows setup.objects ls closing run in
@@ -68,7 +68,7 @@ module _ {V : Type 0} (m : Meaning V) (k : Constants) (setup : Setup) (v : V) wh
       }
 
   -- want of memory before the first turn
-  pub none-played : (schedule : List ℕ) (end : V) → end ≡ v → (opening k setup v).held.service ≡ v → IsCutShort m k setup schedule v end 0
+  pub none-played : (schedule : List ℕ) (end : V) → end ≡ v → (opening k setup v).shared.service ≡ v → IsCutShort m k setup schedule v end 0
   none-played schedule end same opened = record {
     valid = λ some. absurd (omega (arith, some));
     labels = [];
@@ -100,7 +100,7 @@ run-length m (turn ∷ turns) [] w z run = absurd run
 run-length m (turn ∷ turns) (l ∷ labels) w z run = (let rest = run-length m turns labels run.0 z run.2 in omega arith)
 
 -- want of memory behind the last turn
-pub end-played : {V : Type 0} (m : Meaning V) (k : Constants) (setup : Setup) (v : V) (schedule : List ℕ) (labels : List Label) (closing : World V) (end : V) (done : ℕ) → IsValid k setup → done ≡ length labels → HasPlayed m schedule labels (opening k setup v) closing → end ≡ closing.held.service → IsCutShort m k setup schedule v end done
+pub end-played : {V : Type 0} (m : Meaning V) (k : Constants) (setup : Setup) (v : V) (schedule : List ℕ) (labels : List Label) (closing : World V) (end : V) (done : ℕ) → IsValid k setup → done ≡ length labels → HasPlayed m schedule labels (opening k setup v) closing → end ≡ closing.shared.service → IsCutShort m k setup schedule v end done
 end-played {V} m k setup v schedule labels closing end done valid is so value =
     let long = run-length m schedule labels (opening k setup v) closing so.is_run in
     let whole : take done schedule ≡ schedule = take_all done schedule (omega arith) in
@@ -115,7 +115,7 @@ end-played {V} m k setup v schedule labels closing end done valid is so value =
     }
 
 -- a refusal at the opening
-pub opening-refused : {V : Type 0} (m : Meaning V) (k : Constants) (setup : Setup) (v end : V) (schedule : List ℕ) (fault : DriveFault) → end ≡ v → (opening k setup v).held.service ≡ v → IsRefusal (fault_of k setup) fault → IsRefused m k setup schedule v end fault
+pub opening-refused : {V : Type 0} (m : Meaning V) (k : Constants) (setup : Setup) (v end : V) (schedule : List ℕ) (fault : DriveFault) → end ≡ v → (opening k setup v).shared.service ≡ v → IsRefusal (fault_of k setup) fault → IsRefused m k setup schedule v end fault
 opening-refused m k setup v end schedule (drive_fault.Setup f) same opened is = (is, same)
 opening-refused {V} m k setup v end schedule (drive_fault.OutOfMemory done) same opened is =
     let P : ℕ → Type 0 = λ n. IsCutShort m k setup schedule v end n in

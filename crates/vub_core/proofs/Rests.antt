@@ -12,7 +12,7 @@ use Rattle.vub_model.specs.declared.party.Party.TheVariants as party
 use Rattle.vub_model.specs.declared.phase.Phase.{Phase}
 use Rattle.vub_model.specs.declared.phase.Phase.TheVariants.{Idle, Polled, Sweep, Heard, Serving, Taken, Served, Stopped}
 use Rattle.vub_model.specs.declared.setup.Guest.{Guest}
-use Rattle.vub_model.specs.Held.{Held}
+use Rattle.vub_model.specs.Shared.{Shared}
 use Rattle.vub_model.specs.Wiring.{Wiring, opened_at}
 use Rattle.vub_model.specs.Work.{MayWork}
 use Rattle.vub_model.specs.World.{World, phase_at}
@@ -37,7 +37,7 @@ not_false : (b : Bool) → not b ≡ false → b ≡ true
 not_false true is = refl
 not_false false is = (let bad : true ≡ false = is in absurd cc)
 
-module _ {V : Type 0} (g : Wiring) (k : ℕ) (h : Held V) where
+module _ {V : Type 0} (g : Wiring) (k : ℕ) (h : Shared V) where
   idle-rests : has_report h.table (opened_at g k).list ≡ false → (l : Label) → MayWork g k h Idle l → ⊥
   idle-rests none (label.Poll object) may = none-ready (ready_members h.table (opened_at g k).list) object none may
   idle-rests none label.Pass may = may
@@ -85,7 +85,7 @@ one-not p (x ∷ xs) d none =
 
 module _ {V : Type 0} (w : World V) (workers : List VringEpollHandler) (are : AreHandlers w.wiring 0 workers) (phases : w.phases ≡ map (λ h. phase_of h) workers) where
   abbrev Resting : VringEpollHandler → Bool
-  Resting h = rests_in w.held.table h.opened.list (phase_of h)
+  Resting h = rests_in w.shared.table h.opened.list (phase_of h)
 
   phase-there : (k : ℕ) (d : VringEpollHandler) → k < length workers → phase_at w.phases k ≡ phase_of (get_or workers k d)
   phase-there k d within = ap (λ ps. phase_at ps k) phases ∙ get_or-map (λ h. phase_of h) workers k d (Stopped Exit) within
@@ -93,18 +93,18 @@ module _ {V : Type 0} (w : World V) (workers : List VringEpollHandler) (are : Ar
   phase-past : (k : ℕ) → length workers ≤ k → phase_at w.phases k ≡ Stopped Exit
   phase-past k past = ap (λ ps. phase_at ps k) phases ∙ get_or_past (map (λ h. phase_of h) workers) k (Stopped Exit) (let long : length (map (λ h. phase_of h) workers) ≡ length workers = length-map workers (λ h. phase_of h) in omega arith)
 
-  rest-there : (k : ℕ) (d : VringEpollHandler) → k < length workers → rests_in w.held.table (opened_at w.wiring k).list (phase_at w.phases k) ≡ Resting (get_or workers k d)
+  rest-there : (k : ℕ) (d : VringEpollHandler) → k < length workers → rests_in w.shared.table (opened_at w.wiring k).list (phase_at w.phases k) ≡ Resting (get_or workers k d)
   rest-there k d within =
       let is = handler-at w.wiring 0 workers k d are within in
       let P : ℕ → Type 0 = λ n. IsHandler w.wiring n (get_or workers k d) in
       let own : IsHandler w.wiring k (get_or workers k d) = (let e : 0 + k ≡ k = omega arith in subst P e is) in
-      ap (λ p. rests_in w.held.table (opened_at w.wiring k).list p) (phase-there k d within) ∙ ap (λ o. rests_in w.held.table o.list (phase_of (get_or workers k d))) (sym own.opened)
+      ap (λ p. rests_in w.shared.table (opened_at w.wiring k).list p) (phase-there k d within) ∙ ap (λ o. rests_in w.shared.table o.list (phase_of (get_or workers k d))) (sym own.opened)
 
-  rest-worker : (d : VringEpollHandler) → list_all (λ h. Resting h) workers ≡ true → (k : ℕ) (l : Label) → MayWork w.wiring k w.held (phase_at w.phases k) l → ⊥
+  rest-worker : (d : VringEpollHandler) → list_all (λ h. Resting h) workers ≡ true → (k : ℕ) (l : Label) → MayWork w.wiring k w.shared (phase_at w.phases k) l → ⊥
   rest-worker d all k l may =
       elim (cases_lt k (length workers)) [
-        | inl within ↦ worker-rests w.wiring k w.held (phase_at w.phases k) (rest-there k d within ∙ all-at (λ h. Resting h) workers k d all within) l may
-        | inr past ↦ (let gone : MayWork w.wiring k w.held (Stopped Exit) l = rw (phase-past k past) at may in absurd gone)
+        | inl within ↦ worker-rests w.wiring k w.shared (phase_at w.phases k) (rest-there k d within ∙ all-at (λ h. Resting h) workers k d all within) l may
+        | inr past ↦ (let gone : MayWork w.wiring k w.shared (Stopped Exit) l = rw (phase-past k past) at may in absurd gone)
       ]
 
   all-rest : (d : VringEpollHandler) → w.guest ≡ [] → list_all (λ h. Resting h) workers ≡ true → IsAtRest w
@@ -116,21 +116,21 @@ module _ {V : Type 0} (w : World V) (workers : List VringEpollHandler) (are : Ar
   not-rest : (d : VringEpollHandler) → list_all (λ h. Resting h) workers ≡ false → IsAtRest w → ⊥
   not-rest d none rest =
       let one = one-not (λ h. Resting h) workers d none in
-      let step = worker-works w.wiring one.0 w.held (phase_at w.phases one.0) (rest-there one.0 d one.1 ∙ one.2) in
+      let step = worker-works w.wiring one.0 w.shared (phase_at w.phases one.0) (rest-there one.0 d one.1 ∙ one.2) in
       rest (party.Worker one.0) step.0 step.1
 
 no-worker : {V : Type 0} (w : World V) → AreHandlers w.wiring 0 [] → w.phases ≡ map (λ h. phase_of h) [] → w.guest ≡ [] → IsAtRest w
 no-worker w are phases done party.Guest label.Guest may = may done
 no-worker w are phases done party.Guest l may = may
 no-worker w are phases done party.Control l may = may
-no-worker w are phases done (party.Worker k) l may = (let gone : MayWork w.wiring k w.held (Stopped Exit) l = rw (phase-past w [] are phases k (omega arith)) at may in absurd gone)
+no-worker w are phases done (party.Worker k) l may = (let gone : MayWork w.wiring k w.shared (Stopped Exit) l = rw (phase-past w [] are phases k (omega arith)) at may in absurd gone)
 
 -- the world is at rest exactly where the guest's list is done and each worker rests
-pub world-rests : {V : Type 0} (w : World V) (workers : List VringEpollHandler) → AreHandlers w.wiring 0 workers → w.phases ≡ map (λ h. phase_of h) workers → w.guest ≡ [] → list_all (λ (h : VringEpollHandler). rests_in w.held.table h.opened.list (phase_of h)) workers ≡ true → IsAtRest w
+pub world-rests : {V : Type 0} (w : World V) (workers : List VringEpollHandler) → AreHandlers w.wiring 0 workers → w.phases ≡ map (λ h. phase_of h) workers → w.guest ≡ [] → list_all (λ (h : VringEpollHandler). rests_in w.shared.table h.opened.list (phase_of h)) workers ≡ true → IsAtRest w
 world-rests w [] are phases done all = no-worker w are phases done
 world-rests w (h ∷ hs) are phases done all = all-rest w (h ∷ hs) are phases h done all
 
-pub worker-goes : {V : Type 0} (w : World V) (workers : List VringEpollHandler) → AreHandlers w.wiring 0 workers → w.phases ≡ map (λ h. phase_of h) workers → list_all (λ (h : VringEpollHandler). rests_in w.held.table h.opened.list (phase_of h)) workers ≡ false → IsAtRest w → ⊥
+pub worker-goes : {V : Type 0} (w : World V) (workers : List VringEpollHandler) → AreHandlers w.wiring 0 workers → w.phases ≡ map (λ h. phase_of h) workers → list_all (λ (h : VringEpollHandler). rests_in w.shared.table h.opened.list (phase_of h)) workers ≡ false → IsAtRest w → ⊥
 worker-goes w [] are phases none rest = (let bad : true ≡ false = none in absurd cc)
 worker-goes w (h ∷ hs) are phases none rest = not-rest w (h ∷ hs) are phases h none rest
 
@@ -138,7 +138,7 @@ pub guest-goes : {V : Type 0} (w : World V) → w.guest ≢ [] → IsAtRest w �
 guest-goes w left rest = rest party.Guest label.Guest left
 
 -- where the guest's list is done, the answer of the workers is the world's
-pub rests-both : {V : Type 0} (w : World V) (workers : List VringEpollHandler) (b : Bool) → AreHandlers w.wiring 0 workers → w.phases ≡ map (λ h. phase_of h) workers → w.guest ≡ [] → b ≡ list_all (λ (h : VringEpollHandler). rests_in w.held.table h.opened.list (phase_of h)) workers → IsTrue b ↔ IsAtRest w
+pub rests-both : {V : Type 0} (w : World V) (workers : List VringEpollHandler) (b : Bool) → AreHandlers w.wiring 0 workers → w.phases ≡ map (λ h. phase_of h) workers → w.guest ≡ [] → b ≡ list_all (λ (h : VringEpollHandler). rests_in w.shared.table h.opened.list (phase_of h)) workers → IsTrue b ↔ IsAtRest w
 rests-both w workers true are phases done is = ((λ yes-is. world-rests w workers are phases done (sym is)), (λ rest. refl))
 rests-both w workers false are phases done is = ((λ bad. let no-way : false ≡ true = bad in absurd cc), (λ rest. absurd (worker-goes w workers are phases (sym is) rest)))
 

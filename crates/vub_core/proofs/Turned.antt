@@ -25,10 +25,10 @@ use Rattle.vub_model.specs.declared.phase.Phase.{Phase}
 use Rattle.vub_model.specs.declared.phase.Phase.TheVariants.{Idle, Polled, Sweep, Heard, Serving, Taken, Served, Stopped}
 use Rattle.vub_model.specs.declared.records.Take.{Take}
 use Rattle.vub_model.specs.RingRecord.{Vring, has_addresses}
-use Rattle.vub_model.specs.Held.{Held, ring_at}
+use Rattle.vub_model.specs.Shared.{Shared, ring_at}
 use Rattle.vub_model.specs.Service.{Meaning}
 use Rattle.vub_model.specs.Wiring.{Wiring}
-use Rattle.vub_model.specs.Work.{Local, MayWork, after_work, after_took, after_said, serving, stopped, is_live, looked, put_said, why_of}
+use Rattle.vub_model.specs.Work.{Local, MayWork, after_work, after_took, after_said, serving, stopped, may_take, looked, put_said, why_of}
 use Rattle.vub_model.specs.World.{World, after, after_local, phase_at, takes_by, uses_by, used_of, written_by, if_used}
 use Rattle.vub_model.specs.Written.{spots_of, put_spots, take_spots, with_spots}
 use Rattle.vub_model.specs.RunOf.{Turn}
@@ -52,8 +52,8 @@ finished-some : (e : Entry) (reply queues rest : List ℕ) → finished_by label
 finished-some e reply queues [] = refl
 finished-some e reply queues (q ∷ rest) = refl
 
-module _ {V : Type 0} (old : Held V) (e : Entry) (reply queues : List ℕ) (now : Phase) where
-  uses-said : (said : Result Bool PutFault) (new : Held V) → record { held = new; phase = now } ≡ after_said old e reply queues said → uses_in (finished_by label.Put (Served e reply queues) now) ≡ if_used said (used_of e reply ∷ [])
+module _ {V : Type 0} (old : Shared V) (e : Entry) (reply queues : List ℕ) (now : Phase) where
+  uses-said : (said : Result Bool PutFault) (new : Shared V) → record { shared = new; phase = now } ≡ after_said old e reply queues said → uses_in (finished_by label.Put (Served e reply queues) now) ≡ if_used said (used_of e reply ∷ [])
   uses-said (Ok wanted) new is =
       let phase : now ≡ serving queues = ap (λ (x : Local V). x.phase) is in
       ap (λ p. uses_in (finished_by label.Put (Served e reply queues) p)) phase ∙ finished-serving e reply queues queues
@@ -61,9 +61,9 @@ module _ {V : Type 0} (old : Held V) (e : Entry) (reply queues : List ℕ) (now 
       let phase : now ≡ stopped (why_of fault) = ap (λ (x : Local V). x.phase) is in
       ap (λ p. uses_in (finished_by label.Put (Served e reply queues) p)) phase
 
-uses-work : {V : Type 0} (m : Meaning V) (g : Wiring) (k : ℕ) (old new : Held V) (now before : Phase) (l : Label) → MayWork g k old before l → record { held = new; phase = now } ≡ after_work m g k old before l → uses_in (finished_by l before now) ≡ uses_by old l before
+uses-work : {V : Type 0} (m : Meaning V) (g : Wiring) (k : ℕ) (old new : Shared V) (now before : Phase) (l : Label) → MayWork g k old before l → record { shared = new; phase = now } ≡ after_work m g k old before l → uses_in (finished_by l before now) ≡ uses_by old l before
 uses-work {V} m g k old new now before l may =
-    work-cases g k old (λ phase l. record { held = new; phase = now } ≡ after_work m g k old phase l → uses_in (finished_by l phase now) ≡ uses_by old l phase)
+    work-cases g k old (λ phase l. record { shared = new; phase = now } ≡ after_work m g k old phase l → uses_in (finished_by l phase now) ≡ uses_by old l phase)
     (λ object ready is. refl)
     (λ object token is. refl)
     (λ is. refl)
@@ -82,8 +82,8 @@ no-write rs Nothing l now old new none w = w
 nothing-written : (rs : List Region) (f : Footprint) (l : Label) (now : Phase) (finished : Option Finished) (old new : List (List Bool)) → f ≡ Nothing → IsWritten rs f l now finished old new → new ≡ old
 nothing-written rs f l now finished old new is w = let W : Footprint → Type 0 = λ x. IsWritten rs x l now finished old new in subst W is w
 
-none-spots : (r : Vring) (rs : List Region) (t : Took) (flags : List (List Bool)) → take_spots rs r.queue t ≡ [] → with_spots flags (cond (is_live r) (take_spots rs r.queue t) []) ≡ flags
-none-spots r rs t flags none = elim (is_live r) as (λ b. with_spots flags (cond b (take_spots rs r.queue t) []) ≡ flags) [ true ↦ ap (λ l. with_spots flags l) none | false ↦ refl ]
+none-spots : (r : Vring) (rs : List Region) (t : Took) (flags : List (List Bool)) → take_spots rs r.queue t ≡ [] → with_spots flags (cond (may_take r) (take_spots rs r.queue t) []) ≡ flags
+none-spots r rs t flags none = elim (may_take r) as (λ b. with_spots flags (cond b (take_spots rs r.queue t) []) ≡ flags) [ true ↦ ap (λ l. with_spots flags l) none | false ↦ refl ]
 
 -- a ring that gives nothing has its word avail_event in guest memory, if notifications go by index
 covers-finish : (g : Guest) (r : Ring) (t : Took) → finish_of g r t ≡ took.None → r.event_idx ≡ true → event_covers g r ≡ true
@@ -103,27 +103,27 @@ left-serving : (rest : List ℕ) → left_none label.Take (serving rest) ≡ tru
 left-serving [] = refl
 left-serving (q ∷ rest) = refl
 
-module _ {V : Type 0} (old new : Held V) (regions : new.guest.regions ≡ old.guest.regions) (now : Phase) (f : Footprint) (before after : List (List Bool)) where
-  looked-took : (q : ℕ) → looked old q ≡ took.None → is_live (ring_at old q) ≡ true → took_of old.guest (ring_at old q).queue ≡ took.None
+module _ {V : Type 0} (old new : Shared V) (regions : new.guest.regions ≡ old.guest.regions) (now : Phase) (f : Footprint) (before after : List (List Bool)) where
+  looked-took : (q : ℕ) → looked old q ≡ took.None → may_take (ring_at old q) ≡ true → took_of old.guest (ring_at old q).queue ≡ took.None
   unfolding looked
-  looked-took q is live = sym (cond-true (is_live (ring_at old q)) (took_of old.guest (ring_at old q).queue) took.None live) ∙ is
+  looked-took q is live = sym (cond-true (may_take (ring_at old q)) (took_of old.guest (ring_at old q).queue) took.None live) ∙ is
 
-  event-written : (q : ℕ) (rest : List ℕ) → looked old q ≡ took.None → now ≡ serving rest → IsEventFootprint (ring_at old q) f → IsWritten new.guest.regions f label.Take now None before after → after ≡ with_spots before (cond (is_live (ring_at old q)) (take_spots old.guest.regions (ring_at old q).queue took.None) [])
+  event-written : (q : ℕ) (rest : List ℕ) → looked old q ≡ took.None → now ≡ serving rest → IsEventFootprint (ring_at old q) f → IsWritten new.guest.regions f label.Take now None before after → after ≡ with_spots before (cond (may_take (ring_at old q)) (take_spots old.guest.regions (ring_at old q).queue took.None) [])
   event-written q rest is phase foot w =
       let left : left_none label.Take now ≡ true = ap (λ p. left_none label.Take p) phase ∙ left-serving rest in
-      elim (cases_Bool (is_live (ring_at old q))) [
+      elim (cases_Bool (may_take (ring_at old q))) [
         | inl live ↦ elim (cases_Bool (ring_at old q).queue.event_idx) [
           | inl on ↦ (let there = foot.some (rw (live, on) refl) in
               let W : Footprint → Type 0 = λ x. IsWritten new.guest.regions x label.Take now None before after in
               let word = (subst W there.1 w).1 left (ring_at old q).queue there.2 in
               let covered : covers new.guest.regions (avail_event_at (ring_at old q).queue) 2 ≡ true = ap (λ rs. covers rs (avail_event_at (ring_at old q).queue) 2) regions ∙ covers-event old.guest (ring_at old q).queue (looked-took q is live) on in
-              word covered ∙ ap (λ rs. with_spots before (spots_of rs (avail_event_at (ring_at old q).queue) 2)) regions ∙ sym (ap (λ l. with_spots before l) (cond-true (is_live (ring_at old q)) (take_spots old.guest.regions (ring_at old q).queue took.None) [] live ∙ cond-true (ring_at old q).queue.event_idx (spots_of old.guest.regions (avail_event_at (ring_at old q).queue) 2) [] on)))
-          | inr off ↦ nothing-written new.guest.regions f label.Take now None before after (foot.none (rw (live, off) refl)) w ∙ sym (ap (λ l. with_spots before l) (cond-true (is_live (ring_at old q)) (take_spots old.guest.regions (ring_at old q).queue took.None) [] live ∙ cond-false (ring_at old q).queue.event_idx (spots_of old.guest.regions (avail_event_at (ring_at old q).queue) 2) [] off))
+              word covered ∙ ap (λ rs. with_spots before (spots_of rs (avail_event_at (ring_at old q).queue) 2)) regions ∙ sym (ap (λ l. with_spots before l) (cond-true (may_take (ring_at old q)) (take_spots old.guest.regions (ring_at old q).queue took.None) [] live ∙ cond-true (ring_at old q).queue.event_idx (spots_of old.guest.regions (avail_event_at (ring_at old q).queue) 2) [] on)))
+          | inr off ↦ nothing-written new.guest.regions f label.Take now None before after (foot.none (rw (live, off) refl)) w ∙ sym (ap (λ l. with_spots before l) (cond-true (may_take (ring_at old q)) (take_spots old.guest.regions (ring_at old q).queue took.None) [] live ∙ cond-false (ring_at old q).queue.event_idx (spots_of old.guest.regions (avail_event_at (ring_at old q).queue) 2) [] off))
         ]
-        | inr dead ↦ nothing-written new.guest.regions f label.Take now None before after (foot.none (rw dead refl)) w ∙ sym (ap (λ l. with_spots before l) (cond-false (is_live (ring_at old q)) (take_spots old.guest.regions (ring_at old q).queue took.None) [] dead))
+        | inr dead ↦ nothing-written new.guest.regions f label.Take now None before after (foot.none (rw dead refl)) w ∙ sym (ap (λ l. with_spots before l) (cond-false (may_take (ring_at old q)) (take_spots old.guest.regions (ring_at old q).queue took.None) [] dead))
       ]
 
-  take-written : (q : ℕ) (rest : List ℕ) (t : Took) → looked old q ≡ t → record { held = new; phase = now } ≡ after_took old q rest t → IsEventFootprint (ring_at old q) f → IsWritten new.guest.regions f label.Take now None before after → after ≡ with_spots before (cond (is_live (ring_at old q)) (take_spots old.guest.regions (ring_at old q).queue t) [])
+  take-written : (q : ℕ) (rest : List ℕ) (t : Took) → looked old q ≡ t → record { shared = new; phase = now } ≡ after_took old q rest t → IsEventFootprint (ring_at old q) f → IsWritten new.guest.regions f label.Take now None before after → after ≡ with_spots before (cond (may_take (ring_at old q)) (take_spots old.guest.regions (ring_at old q).queue t) [])
   take-written q rest (took.Entry c) is row foot w =
       let phase = ap (λ (x : Local V). x.phase) row in
       no-write new.guest.regions f label.Take now before after (ap (λ p. left_none label.Take p) phase) w ∙ sym (none-spots (ring_at old q) old.guest.regions (took.Entry c) before refl)
@@ -141,7 +141,7 @@ module _ {V : Type 0} (old new : Held V) (regions : new.guest.regions ≡ old.gu
         | inr none ↦ (let bad : Err put_fault.RingOutside ≡ Ok wanted = rw none at is in absurd cc)
       ]
 
-  put-written : (e : Entry) (reply queues : List ℕ) (said : Result Bool PutFault) → put_said old e reply ≡ said → record { held = new; phase = now } ≡ after_said old e reply queues said → IsFootprint old.rings (Served e reply queues) f → IsWritten new.guest.regions f label.Put now (finished_by label.Put (Served e reply queues) now) before after → after ≡ with_spots before (if_used said (put_spots old.guest.regions (ring_at old e.queue).queue e.chain reply))
+  put-written : (e : Entry) (reply queues : List ℕ) (said : Result Bool PutFault) → put_said old e reply ≡ said → record { shared = new; phase = now } ≡ after_said old e reply queues said → IsFootprint old.rings (Served e reply queues) f → IsWritten new.guest.regions f label.Put now (finished_by label.Put (Served e reply queues) now) before after → after ≡ with_spots before (if_used said (put_spots old.guest.regions (ring_at old e.queue).queue e.chain reply))
   put-written e reply queues (Ok wanted) is row foot w =
       let phase : now ≡ serving queues = ap (λ (x : Local V). x.phase) row in
       let there = said-ok e reply wanted is in
@@ -157,14 +157,14 @@ module _ {V : Type 0} (old new : Held V) (regions : new.guest.regions ≡ old.gu
       let W : Phase → Type 0 = λ p. IsWritten new.guest.regions f label.Put p (finished_by label.Put (Served e reply queues) p) before after in
       no-write new.guest.regions f label.Put (stopped (why_of fault)) before after refl (subst W phase w)
 
-serving-written : {V : Type 0} (old new : Held V) → new.guest.regions ≡ old.guest.regions → (now : Phase) (f : Footprint) (before after : List (List Bool)) (m : Meaning V) (g : Wiring) (k : ℕ) (queues : List ℕ) → record { held = new; phase = now } ≡ after_work m g k old (Serving queues) label.Take → IsFootprint old.rings (Serving queues) f → IsWritten new.guest.regions f label.Take now None before after → after ≡ with_spots before (written_by old label.Take (Serving queues))
+serving-written : {V : Type 0} (old new : Shared V) → new.guest.regions ≡ old.guest.regions → (now : Phase) (f : Footprint) (before after : List (List Bool)) (m : Meaning V) (g : Wiring) (k : ℕ) (queues : List ℕ) → record { shared = new; phase = now } ≡ after_work m g k old (Serving queues) label.Take → IsFootprint old.rings (Serving queues) f → IsWritten new.guest.regions f label.Take now None before after → after ≡ with_spots before (written_by old label.Take (Serving queues))
 serving-written old new regions now f before after m g k [] is foot w = nothing-written new.guest.regions f label.Take now None before after foot w
 serving-written old new regions now f before after m g k (q ∷ rest) is foot w = take-written old new regions now f before after q rest (looked old q) refl is foot w
 
-written-work : {V : Type 0} (m : Meaning V) (g : Wiring) (k : ℕ) (old new : Held V) (now phase : Phase) (l : Label) (f : Footprint) (before after : List (List Bool)) → MayWork g k old phase l → record { held = new; phase = now } ≡ after_work m g k old phase l → IsFootprint old.rings phase f → IsWritten new.guest.regions f l now (finished_by l phase now) before after → after ≡ with_spots before (written_by old l phase)
+written-work : {V : Type 0} (m : Meaning V) (g : Wiring) (k : ℕ) (old new : Shared V) (now phase : Phase) (l : Label) (f : Footprint) (before after : List (List Bool)) → MayWork g k old phase l → record { shared = new; phase = now } ≡ after_work m g k old phase l → IsFootprint old.rings phase f → IsWritten new.guest.regions f l now (finished_by l phase now) before after → after ≡ with_spots before (written_by old l phase)
 written-work {V} m g k old new now phase l f before after may row =
-    let regions : new.guest.regions ≡ old.guest.regions = ap (λ (x : Local V). x.held.guest.regions) row ∙ (confined-work old m g k phase l).regions in
-    work-cases g k old (λ phase l. record { held = new; phase = now } ≡ after_work m g k old phase l → IsFootprint old.rings phase f → IsWritten new.guest.regions f l now (finished_by l phase now) before after → after ≡ with_spots before (written_by old l phase))
+    let regions : new.guest.regions ≡ old.guest.regions = ap (λ (x : Local V). x.shared.guest.regions) row ∙ (confined-work old m g k phase l).regions in
+    work-cases g k old (λ phase l. record { shared = new; phase = now } ≡ after_work m g k old phase l → IsFootprint old.rings phase f → IsWritten new.guest.regions f l now (finished_by l phase now) before after → after ≡ with_spots before (written_by old l phase))
     (λ object ready is foot w. nothing-written new.guest.regions f (label.Poll object) now None before after foot w)
     (λ object token is foot w. nothing-written new.guest.regions f label.Event now None before after foot w)
     (λ is foot w. nothing-written new.guest.regions f label.Sweep now None before after foot w)
@@ -177,7 +177,7 @@ passed-written : (rs : List Region) (f : Footprint) (phase now : Phase) (before 
 passed-written rs f phase now before after w = no-write rs f label.Pass now before after refl w
 
 -- Guest is the label of no worker
-no-guest : {V : Type 0} (g : Wiring) (k : ℕ) (h : Held V) (phase : Phase) → MayWork g k h phase label.Guest → ⊥
+no-guest : {V : Type 0} (g : Wiring) (k : ℕ) (h : Shared V) (phase : Phase) → MayWork g k h phase label.Guest → ⊥
 no-guest g k h Idle may = may
 no-guest g k h (Polled object token) may = may
 no-guest g k h Sweep may = may
@@ -190,31 +190,31 @@ no-guest g k h (Stopped cause) may = may
 -- Turns of the world
 
 -- the world with what a worker's step left
-abbrev pub stepped : {V : Type 0} → World V → ℕ → Held V → Phase → List Take → List Used → List (List Bool) → World V
-stepped w k new now takes uses written = record w { held = new; phases = set w.phases k now; takes = takes; uses = uses; written = written }
+abbrev pub stepped : {V : Type 0} → World V → ℕ → Shared V → Phase → List Take → List Used → List (List Bool) → World V
+stepped w k new now takes uses written = record w { shared = new; phases = set w.phases k now; takes = takes; uses = uses; written = written }
 
-module _ {V : Type 0} (m : Meaning V) (w : World V) (k : ℕ) (new : Held V) (now : Phase) (f : Footprint) (takes : List Take) (uses : List Used) (written : List (List Bool)) where
-  step-turned : (l : Label) → MayWork w.wiring k w.held (phase_at w.phases k) l → record { held = new; phase = now } ≡ after_work m w.wiring k w.held (phase_at w.phases k) l → IsFootprint w.held.rings (phase_at w.phases k) f → takes ≡ w.takes ++ takes_by l now → uses ≡ w.uses ++ uses_in (finished_by l (phase_at w.phases k) now) → IsWritten new.guest.regions f l now (finished_by l (phase_at w.phases k) now) w.written written → stepped w k new now takes uses written ≡ after_local w k l (phase_at w.phases k) (after_work m w.wiring k w.held (phase_at w.phases k) l)
+module _ {V : Type 0} (m : Meaning V) (w : World V) (k : ℕ) (new : Shared V) (now : Phase) (f : Footprint) (takes : List Take) (uses : List Used) (written : List (List Bool)) where
+  step-turned : (l : Label) → MayWork w.wiring k w.shared (phase_at w.phases k) l → record { shared = new; phase = now } ≡ after_work m w.wiring k w.shared (phase_at w.phases k) l → IsFootprint w.shared.rings (phase_at w.phases k) f → takes ≡ w.takes ++ takes_by l now → uses ≡ w.uses ++ uses_in (finished_by l (phase_at w.phases k) now) → IsWritten new.guest.regions f l now (finished_by l (phase_at w.phases k) now) w.written written → stepped w k new now takes uses written ≡ after_local w k l (phase_at w.phases k) (after_work m w.wiring k w.shared (phase_at w.phases k) l)
   step-turned l may row foot took used wrote =
-      let uses-are = used ∙ ap (λ x. w.uses ++ x) (uses-work m w.wiring k w.held new now (phase_at w.phases k) l may row) in
-      let flags-are = written-work m w.wiring k w.held new now (phase_at w.phases k) l f w.written written may row foot wrote in
+      let uses-are = used ∙ ap (λ x. w.uses ++ x) (uses-work m w.wiring k w.shared new now (phase_at w.phases k) l may row) in
+      let flags-are = written-work m w.wiring k w.shared new now (phase_at w.phases k) l f w.written written may row foot wrote in
       ap (λ t. stepped w k new now t uses written) took
       ∙ ap (λ u. stepped w k new now (w.takes ++ takes_by l now) u written) uses-are
-      ∙ ap (λ x. stepped w k new now (w.takes ++ takes_by l now) (w.uses ++ uses_by w.held l (phase_at w.phases k)) x) flags-are
+      ∙ ap (λ x. stepped w k new now (w.takes ++ takes_by l now) (w.uses ++ uses_by w.shared l (phase_at w.phases k)) x) flags-are
       ∙ ap (λ (x : Local V). after_local w k l (phase_at w.phases k) x) row
 
   -- a worker's turn, with its records, is a turn of the world
-  pub turned : (l : Label) → Turns m w.wiring k l (phase_at w.phases k) now w.held new → IsFootprint w.held.rings (phase_at w.phases k) f → takes ≡ w.takes ++ takes_by l now → uses ≡ w.uses ++ uses_in (finished_by l (phase_at w.phases k) now) → IsWritten new.guest.regions f l now (finished_by l (phase_at w.phases k) now) w.written written → Turn m w (party.Worker k) l (stepped w k new now takes uses written)
+  pub turned : (l : Label) → Turns m w.wiring k l (phase_at w.phases k) now w.shared new → IsFootprint w.shared.rings (phase_at w.phases k) f → takes ≡ w.takes ++ takes_by l now → uses ≡ w.uses ++ uses_in (finished_by l (phase_at w.phases k) now) → IsWritten new.guest.regions f l now (finished_by l (phase_at w.phases k) now) w.written written → Turn m w (party.Worker k) l (stepped w k new now takes uses written)
   turned label.Pass row foot took used wrote = (
     row.0,
     ap (λ t. stepped w k new now t uses written) (took ∙ append-nil w.takes)
         ∙ ap (λ u. stepped w k new now w.takes u written) (used ∙ append-nil w.uses)
         ∙ ap (λ x. stepped w k new now w.takes w.uses x) (passed-written new.guest.regions f (phase_at w.phases k) now w.written written wrote)
         ∙ ap (λ h. stepped w k h now w.takes w.uses w.written) row.1
-        ∙ ap (λ p. stepped w k w.held p w.takes w.uses w.written) row.2
+        ∙ ap (λ p. stepped w k w.shared p w.takes w.uses w.written) row.2
         ∙ ap (λ ps. record w { phases = ps }) (set-get_or w.phases k _),
   )
-  turned label.Guest row foot took used wrote = absurd (no-guest w.wiring k w.held (phase_at w.phases k) row.0)
+  turned label.Guest row foot took used wrote = absurd (no-guest w.wiring k w.shared (phase_at w.phases k) row.0)
   turned (label.Poll object) row foot took used wrote = (row.0, step-turned (label.Poll object) row.0 row.1 foot took used wrote)
   turned label.Event row foot took used wrote = (row.0, step-turned label.Event row.0 row.1 foot took used wrote)
   turned label.Sweep row foot took used wrote = (row.0, step-turned label.Sweep row.0 row.1 foot took used wrote)

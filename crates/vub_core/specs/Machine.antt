@@ -3,9 +3,9 @@ use Rattle.std.specs.Prelude.{List, map, drop}
 use Rattle.vub_model.specs.declared.setup.Guest.{Guest}
 use Rattle.vub_model.specs.Wiring.{Wiring}
 use Rattle.vub_model.specs.World.{World}
-use Rattle.vub_vring.specs.Store.{held_of}
+use Rattle.vub_vring.specs.Store.{shared_of}
 use Rattle.vub_loop.specs.Handler.{phase_of}
 use Rattle.vub_core.specs.declared.machine.Machine.{Machine}
 
 abbrev pub world_of : {V : Type 0} → Wiring → List Guest → Machine → V → World V
-world_of g guest m v = record { held = held_of m.store v; wiring = g; phases = map (λ w. phase_of w) m.workers.items; guest = drop m.acted guest; takes = m.records.takes.items; uses = m.records.uses.items; written = m.records.written }
+world_of g guest m v = record { shared = shared_of m.store v; wiring = g; phases = map (λ w. phase_of w) m.workers.items; guest = drop m.acted guest; takes = m.records.takes.items; uses = m.records.uses.items; written = m.records.written }

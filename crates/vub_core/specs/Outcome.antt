@@ -27,7 +27,7 @@ pub record IsPlayed {V : Type 0} (m : Meaning V) (constants : Constants) (setup 
   pub is_run : IsRun m schedule run.labels (opening constants setup v) closing
   pub least : PollsLeast m schedule run.labels (opening constants setup v)
   pub shows : Shows setup.objects run.labels closing run
-  pub value : end ≡ closing.held.service
+  pub value : end ≡ closing.shared.service
   pub served : IsServed m schedule run.labels (opening constants setup v) closing
   pub live : TakesAreLive m schedule run.labels (opening constants setup v)
   pub confined : IsConfined m schedule run.labels (opening constants setup v)
@@ -43,7 +43,7 @@ pub record IsCutShort {V : Type 0} (m : Meaning V) (constants : Constants) (setu
   pub within : done ≤ length schedule
   pub is_run : IsRun m (take done schedule) labels (opening constants setup v) closing
   pub least : PollsLeast m (take done schedule) labels (opening constants setup v)
-  pub value : end ≡ closing.held.service
+  pub value : end ≡ closing.shared.service
 
 -- why there is no run: the first test that the set-up fails, and then the service was not asked; or want of memory
 abbrev pub IsRefused : {V : Type 0} → Meaning V → Constants → Setup → List ℕ → V → V → DriveFault → Type 0

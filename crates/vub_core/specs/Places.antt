@@ -5,7 +5,7 @@ use Rattle.vub_queue.specs.Ring.{Ring}
 use Rattle.vub_model.specs.declared.phase.Phase.{Phase}
 use Rattle.vub_model.specs.declared.phase.Phase.TheVariants.{Serving, Served}
 use Rattle.vub_model.specs.RingRecord.{Vring, closed_ring, has_addresses}
-use Rattle.vub_model.specs.Work.{is_live}
+use Rattle.vub_model.specs.Work.{may_take}
 use Rattle.vub_core.specs.declared.footprint.Footprint.{Footprint}
 use Rattle.vub_core.specs.declared.footprint.Footprint.TheVariants.{Nothing, Use, Event}
 use Rattle.vub_core.specs.declared.footprint.UsePlace.{UsePlace}
@@ -23,8 +23,8 @@ pub record IsEventPlace (r : Ring) (place : EventPlace) : Type 0 where
 
 -- what a take that finds nothing may write
 pub record IsEventFootprint (r : Vring) (f : Footprint) : Type 0 where
-  pub some : (is_live r && r.queue.event_idx) ≡ true → (place : EventPlace) × (f ≡ Event place) × IsEventPlace r.queue place
-  pub none : (is_live r && r.queue.event_idx) ≡ false → f ≡ Nothing
+  pub some : (may_take r && r.queue.event_idx) ≡ true → (place : EventPlace) × (f ≡ Event place) × IsEventPlace r.queue place
+  pub none : (may_take r && r.queue.event_idx) ≡ false → f ≡ Nothing
 
 -- what the next step of a worker in this phase may write
 abbrev pub IsFootprint : List Vring → Phase → Footprint → Type 0

@@ -17,4 +17,4 @@ pub record WasCutShort {V : Type 0} (m : Meaning V) (schedule : List ℕ) (label
   pub within : length labels ≤ length schedule
   pub is_run : IsRun m (take (length labels) schedule) labels old closing
   pub least : PollsLeast m (take (length labels) schedule) labels old
-  pub value : end ≡ closing.held.service
+  pub value : end ≡ closing.shared.service

@@ -3,7 +3,7 @@ ghost use Rattle.std.specs.Prelude.{◌≡◌, ◌++◌, ◌<◌, ◌^◌, lengt
 ghost use Rattle.std.specs.Option.{option_to_list};
 ghost use Rattle.vub_event.specs.HostTable.{HostTable};
 ghost use Rattle.vub_model.specs.RunRecords.{stop_of, stops_from, count_of_object, counts_from};
-ghost use Rattle.vub_model.specs.Held.{count_at};
+ghost use Rattle.vub_model.specs.Shared.{count_at};
 ghost use Rattle.vub_loop.specs.Handler.{phase_of};
 
 use std::alloc::Global;

@@ -1,5 +1,5 @@
 ghost use Rattle.std.specs.Prelude.{◌≡◌, ◌&&◌, true, false, is_some};
-ghost use Rattle.vub_model.specs.Work.{is_live};
+ghost use Rattle.vub_model.specs.Work.{may_take};
 ghost use Rattle.vub_core.specs.Places.{IsUsePlace, IsEventPlace, IsFootprint};
 
 use vub_model::Phase;
@@ -45,10 +45,10 @@ fn use_of(queue: &Queue) -> Footprint
 
 /// The word that a take of this ring writes where nothing is left.
 fn event_of(ring: &VringState) -> Footprint
-    ensures some { (is_live ring.now && ring.now.queue.event_idx) ≡ true → (place : EventPlace) × (result ≡ Footprint.Event place) × IsEventPlace ring.now.queue place }
-    ensures none { (is_live ring.now && ring.now.queue.event_idx) ≡ false → result ≡ Footprint.Nothing }
+    ensures some { (may_take ring.now && ring.now.queue.event_idx) ≡ true → (place : EventPlace) × (result ≡ Footprint.Event place) × IsEventPlace ring.now.queue place }
+    ensures none { (may_take ring.now && ring.now.queue.event_idx) ≡ false → result ≡ Footprint.Nothing }
 {
-    if !ring.is_live() || !ring.get_queue().event_idx_enabled() {
+    if !ring.may_take() || !ring.get_queue().event_idx_enabled() {
         return Footprint::Nothing;
     }
     match ring.get_queue().addresses() {

@@ -34,7 +34,7 @@ fn new_store(
     requires numbers { length setup.now.objects + length constants.now.masks < 2 ^ 32 }
     requires valid { fault_of constants.now setup.now ≡ None }
     requires guest { memory.guest ≡ record { regions = map given_region setup.now.regions; contents = contents_from 0 setup.now.objects } }
-    ensures held { IfOk result (λ s. unserved s ≡ before_rings constants.now setup.now (tt {0})) }
+    ensures shared { IfOk result (λ s. unserved s ≡ before_rings constants.now setup.now (tt {0})) }
     ensures sets { IfOk result (λ s. length s.pending.items ≡ length constants.now.masks) }
     ensures sound { IfOk result (λ s. s.host.plan.calls.items ≡ []) }
 {
@@ -64,7 +64,7 @@ pub(crate) fn open_store(
     requires numbers { length setup.now.objects + length constants.now.masks < 2 ^ 32 }
     requires valid { fault_of constants.now setup.now ≡ None }
     requires guest { memory.guest ≡ record { regions = map given_region setup.now.regions; contents = contents_from 0 setup.now.objects } }
-    ensures held { IfOk result (λ s. unserved s ≡ (opening constants.now setup.now (tt {0})).held) }
+    ensures shared { IfOk result (λ s. unserved s ≡ (opening constants.now setup.now (tt {0})).shared) }
     ensures sound { IfOk result (λ s. s.host.plan.calls.items ≡ []) }
 {
     let mut store = new_store(alloc, setup, constants, memory)?;

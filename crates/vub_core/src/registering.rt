@@ -2,7 +2,7 @@
 ghost use Rattle.std.specs.Prelude.{◌≡◌, ◌+◌, ◌<◌, ◌^◌, Some, length, fold, slice_set, slice_index_or, [], OnOk};
 ghost use Rattle.vub_event.specs.HostTable.{event_at, with_event};
 ghost use Rattle.vub_event.specs.HostCalls.{claim_refusal, add_refusal, signal_refusal};
-ghost use Rattle.vub_model.specs.Held.{raised_option, with_number};
+ghost use Rattle.vub_model.specs.Shared.{raised_option, with_number};
 ghost use Rattle.vub_model.specs.Opening.{wiring_of, claimed_event, listed, placed, registered};
 ghost use Rattle.vub_core.specs.Hosts.{NeverFails};
 ghost use Rattle.vub_core.specs.Opened.{unserved, IsTaken, AreTaken};
@@ -66,7 +66,7 @@ fn place_kick(
     requires sound { NeverFails store.old.host }
     requires add { add_refusal store.old.host.table place.worker (listed kick place.number) ≡ None }
     requires bell { signal_refusal store.old.host.table (count + place.worker) 1 ≡ None }
-    ensures held { OnOk result (unserved store.new ≡ placed (wiring_of constants.now count) (unserved store.old) kick (Some place)) }
+    ensures shared { OnOk result (unserved store.new ≡ placed (wiring_of constants.now count) (unserved store.old) kick (Some place)) }
     ensures sets { OnOk result (length store.new.pending.items ≡ length constants.now.masks) }
     ensures sound { NeverFails store.new.host }
 {
@@ -95,7 +95,7 @@ fn register(
     requires sets { length store.old.pending.items ≡ length constants.now.masks }
     requires sound { NeverFails store.old.host }
     requires taken { IsTaken constants.now count (unserved store.old) ring.now }
-    ensures held { OnOk result (unserved store.new ≡ registered (wiring_of constants.now count) (unserved store.old) ring.now) }
+    ensures shared { OnOk result (unserved store.new ≡ registered (wiring_of constants.now count) (unserved store.old) ring.now) }
     ensures sets { OnOk result (length store.new.pending.items ≡ length constants.now.masks) }
     ensures sound { NeverFails store.new.host }
 {
@@ -130,7 +130,7 @@ pub(crate) fn register_rings(
     requires sets { length store.old.pending.items ≡ length constants.now.masks }
     requires sound { NeverFails store.old.host }
     requires taken { AreTaken constants.now count (unserved store.old) given.now }
-    ensures held { OnOk result (unserved store.new ≡ fold (λ h r. registered (wiring_of constants.now count) h r) (unserved store.old) given.now) }
+    ensures shared { OnOk result (unserved store.new ≡ fold (λ h r. registered (wiring_of constants.now count) h r) (unserved store.old) given.now) }
     ensures sound { NeverFails store.new.host }
 {
     for ring in given {

@@ -9,7 +9,7 @@ ghost use Rattle.vub_model.specs.Wiring.{Wiring};
 ghost use Rattle.vub_model.specs.Work.{MayWork};
 ghost use Rattle.vub_model.specs.World.{May};
 ghost use Rattle.vub_model.specs.RunOf.{IsAtRest};
-ghost use Rattle.vub_vring.specs.Store.{held_of};
+ghost use Rattle.vub_vring.specs.Store.{shared_of};
 ghost use Rattle.vub_loop.specs.Handler.{IsHandler, phase_of};
 ghost use Rattle.vub_loop.specs.Plays.{HasNoWork};
 ghost use Rattle.vub_core.specs.Hosts.{NeverFails};

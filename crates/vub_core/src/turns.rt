@@ -2,11 +2,11 @@
 ghost use Rattle.std.specs.Prelude.{◌≡◌, ℕ, List, length, IfOk, OnErr};
 ghost use Rattle.vub_model.specs.declared.setup.Guest.{Guest};
 ghost use Rattle.vub_model.specs.declared.party.Party.{Party};
-ghost use Rattle.vub_model.specs.Held.{Held};
+ghost use Rattle.vub_model.specs.Shared.{Shared};
 ghost use Rattle.vub_model.specs.Service.{Meaning, meaning};
 ghost use Rattle.vub_model.specs.RunOf.{Turn, IsLeast, IsLeastPoll};
 ghost use Rattle.vub_model.specs.Wiring.{Wiring};
-ghost use Rattle.vub_vring.specs.Store.{held_of};
+ghost use Rattle.vub_vring.specs.Store.{shared_of};
 ghost use Rattle.vub_loop.specs.Finished.{finished_by};
 ghost use Rattle.vub_loop.specs.Handler.{IsHandler, SameWorker, phase_of};
 ghost use Rattle.vub_loop.specs.Plays.{Turns};
@@ -52,8 +52,8 @@ fn play_worker<V: Service>(
     worker: &mut VringEpollHandler,
 ) -> Result<Label, OutOfMemory>
     requires { NeverFails store.old.host }
-    ensures row { (g : Wiring) (k : ℕ) → IsHandler g k worker.old → IfOk result (λ l. Turns (meaning V.reply_of V.after) g k l (phase_of worker.old) (phase_of worker.new) (held_of store.old service.old) (held_of store.new service.new)) }
-    ensures least { (g : Wiring) (k : ℕ) → IsHandler g k worker.old → IfOk result (λ l. IsLeastPoll g k (held_of store.old service.old) l) }
+    ensures row { (g : Wiring) (k : ℕ) → IsHandler g k worker.old → IfOk result (λ l. Turns (meaning V.reply_of V.after) g k l (phase_of worker.old) (phase_of worker.new) (shared_of store.old service.old) (shared_of store.new service.new)) }
+    ensures least { (g : Wiring) (k : ℕ) → IsHandler g k worker.old → IfOk result (λ l. IsLeastPoll g k (shared_of store.old service.old) l) }
     ensures finished { IfOk result (λ l. worker.new.finished ≡ finished_by l (phase_of worker.old) (phase_of worker.new)) }
     ensures same { SameWorker worker.old worker.new }
     ensures sound { NeverFails store.new.host }

@@ -13,7 +13,7 @@ use Rattle.vub_event.specs.InterestList.{member_of}
 use Rattle.vub_model.specs.declared.cause.StopCause.TheVariants.{Exit}
 use Rattle.vub_model.specs.declared.phase.Phase.{Phase}
 use Rattle.vub_model.specs.declared.phase.Phase.TheVariants.{Idle, Sweep, Heard, Stopped}
-use Rattle.vub_model.specs.Held.{Held, count_of, count_at, read_option, counter_read}
+use Rattle.vub_model.specs.Shared.{Shared, count_of, count_at, read_option, counter_read}
 use Rattle.vub_model.specs.Work.{Local, has_token, after_bell, after_listener}
 use Rattle.vub_vring.specs.declared.ops.HostOp.TheVariants as host_op
 use Rattle.vub_vring.specs.declared.ops.HostSaid.{HostSaid}
@@ -68,17 +68,17 @@ abbrev table_read : HostTable → ℕ → Bool → HostTable
 table_read table object heard = if heard then consume_after table object else table
 
 module _ {V : Type 0} where
-  left : (a b : Held V) (table : HostTable) → b.table ≡ table → b ≡ record a { table = b.table } → b ≡ record a { table = table }
+  left : (a b : Shared V) (table : HostTable) → b.table ≡ table → b ≡ record a { table = b.table } → b ≡ record a { table = table }
   left a b table is only = only ∙ ap (λ (t : HostTable). record a { table = t }) is
 
-  abbrev bell_local : Held V → ℕ → Option ℕ → Bool → Local V
-  bell_local a bell exit above = if above then record { held = counter_read a bell; phase = Sweep } else record { held = a; phase = if is_some exit then Stopped Exit else Idle }
+  abbrev bell_local : Shared V → ℕ → Option ℕ → Bool → Local V
+  bell_local a bell exit above = if above then record { shared = counter_read a bell; phase = Sweep } else record { shared = a; phase = if is_some exit then Stopped Exit else Idle }
 
   -- a bell that was read is due
-  pub bell-row : (a b : Held V) (s : HostSaid) (bell : ℕ) (exit : Option ℕ) → has_count s ≡ true → HostCall (host_op.Consume bell) s a b → record { held = b; phase = Sweep } ≡ after_bell a bell exit
+  pub bell-row : (a b : Shared V) (s : HostSaid) (bell : ℕ) (exit : Option ℕ) → has_count s ≡ true → HostCall (host_op.Consume bell) s a b → record { shared = b; phase = Sweep } ≡ after_bell a bell exit
   bell-row a b (said.Count n) bell exit is call =
       let now : b ≡ counter_read a bell = left a b _ (call.0.2 ∙ read-after a.table bell) call.1 in
-      let local : Held V → Local V = λ h. record { held = h; phase = Sweep } in
+      let local : Shared V → Local V = λ h. record { shared = h; phase = Sweep } in
       ap local now ∙ ap (bell_local a bell exit) (sym (bell-above a.table bell call.0.0))
   bell-row a b said.Done bell exit is call = absurd cc
   bell-row a b (said.Number n) bell exit is call = absurd cc
@@ -87,26 +87,26 @@ module _ {V : Type 0} where
   bell-row a b (said.Refused e) bell exit is call = absurd cc
 
   -- one whose read is refused stands at zero
-  pub unrung-row : (a b : Held V) (s : HostSaid) (bell : ℕ) (exit : Option ℕ) (phase : Phase) → has_count s ≡ false → IsSaid s → phase ≡ (if is_some exit then Stopped Exit else Idle) → HostCall (host_op.Consume bell) s a b → record { held = b; phase = phase } ≡ after_bell a bell exit
+  pub unrung-row : (a b : Shared V) (s : HostSaid) (bell : ℕ) (exit : Option ℕ) (phase : Phase) → has_count s ≡ false → IsSaid s → phase ≡ (if is_some exit then Stopped Exit else Idle) → HostCall (host_op.Consume bell) s a b → record { shared = b; phase = phase } ≡ after_bell a bell exit
   unrung-row a b (said.Refused e) bell exit phase is due at call =
       let now : b ≡ a = left a b _ call.0.1 call.1 in
-      let local : Held V → Phase → Local V = λ h p. record { held = h; phase = p } in
-      ap (λ (h : Held V). local h phase) now ∙ ap (λ (p : Phase). local a p) at ∙ ap (bell_local a bell exit) (sym (bell-at-zero a.table bell e (said-due (consume_refusal a.table bell) e due call.0.0)))
+      let local : Shared V → Phase → Local V = λ h p. record { shared = h; phase = p } in
+      ap (λ (h : Shared V). local h phase) now ∙ ap (λ (p : Phase). local a p) at ∙ ap (bell_local a bell exit) (sym (bell-at-zero a.table bell e (said-due (consume_refusal a.table bell) e due call.0.0)))
   unrung-row a b (said.Count n) bell exit phase is due at call = absurd cc
   unrung-row a b said.Done bell exit phase is due at call = absurd call.0
   unrung-row a b (said.Number n) bell exit phase is due at call = absurd call.0
   unrung-row a b (said.Member m) bell exit phase is due at call = absurd call.0
   unrung-row a b (said.Ready m) bell exit phase is due at call = absurd call.0
 
-  abbrev listener_local : Held V → ℕ → ℕ → Bool → Local V
-  listener_local a object token heard = if heard then record { held = counter_read a object; phase = Heard token } else record { held = a; phase = Idle }
+  abbrev listener_local : Shared V → ℕ → ℕ → Bool → Local V
+  listener_local a object token heard = if heard then record { shared = counter_read a object; phase = Heard token } else record { shared = a; phase = Idle }
 
   -- a listener that was read is heard
-  pub listener-row : (a b : Held V) (s : HostSaid) (list object token : ℕ) → is_member s ≡ true → HostCall (host_op.ConsumeAs list object token) s a b → record { held = b; phase = Heard token } ≡ after_listener a list object token
+  pub listener-row : (a b : Shared V) (s : HostSaid) (list object token : ℕ) → is_member s ≡ true → HostCall (host_op.ConsumeAs list object token) s a b → record { shared = b; phase = Heard token } ≡ after_listener a list object token
   listener-row a b (said.Member m) list object token is call =
       let heard : is_listed_as a.table list object token ≡ true = sym call.0.1 ∙ is in
       let now : b ≡ counter_read a object = left a b _ (call.0.2 ∙ ap (table_read a.table object) heard ∙ read-after a.table object) call.1 in
-      let local : Held V → Local V = λ h. record { held = h; phase = Heard token } in
+      let local : Shared V → Local V = λ h. record { shared = h; phase = Heard token } in
       ap local now ∙ ap (listener_local a object token) (sym heard ∙ listed-token a.table list object token)
   listener-row a b said.Done list object token is call = absurd cc
   listener-row a b (said.Number n) list object token is call = absurd cc
@@ -115,15 +115,15 @@ module _ {V : Type 0} where
   listener-row a b (said.Refused e) list object token is call = absurd cc
 
   -- an event that is no listener with this token is stale
-  pub stale-row : (a b : Held V) (s : HostSaid) (list object token : ℕ) → is_member s ≡ false → IsSaid s → HostCall (host_op.ConsumeAs list object token) s a b → record { held = b; phase = Idle } ≡ after_listener a list object token
+  pub stale-row : (a b : Shared V) (s : HostSaid) (list object token : ℕ) → is_member s ≡ false → IsSaid s → HostCall (host_op.ConsumeAs list object token) s a b → record { shared = b; phase = Idle } ≡ after_listener a list object token
   stale-row a b (said.Member m) list object token is due call =
       let heard : is_listed_as a.table list object token ≡ false = sym call.0.1 ∙ is in
       let now : b ≡ a = left a b _ (call.0.2 ∙ ap (table_read a.table object) heard) call.1 in
-      let local : Held V → Local V = λ h. record { held = h; phase = Idle } in
+      let local : Shared V → Local V = λ h. record { shared = h; phase = Idle } in
       ap local now ∙ ap (listener_local a object token) (sym heard ∙ listed-token a.table list object token)
   stale-row a b (said.Refused e) list object token is due call =
       let now : b ≡ a = left a b _ call.0.1 call.1 in
-      let local : Held V → Local V = λ h. record { held = h; phase = Idle } in
+      let local : Shared V → Local V = λ h. record { shared = h; phase = Idle } in
       ap local now ∙ ap (listener_local a object token) (sym (unlisted-token a.table list object token e (said-due (list_refusal a.table list) e due call.0.0)))
   stale-row a b said.Done list object token is due call = absurd call.0
   stale-row a b (said.Number n) list object token is due call = absurd call.0

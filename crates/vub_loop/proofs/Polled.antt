@@ -8,7 +8,7 @@ use Rattle.vub_model.specs.declared.phase.Phase.{Phase}
 use Rattle.vub_model.specs.declared.phase.Phase.TheVariants.{Idle, Polled}
 use Rattle.vub_model.specs.declared.label.Label.TheVariants as label
 use Rattle.vub_model.specs.declared.wiring.Opened.{Opened}
-use Rattle.vub_model.specs.Held.{Held, is_ready, token_in, token_of}
+use Rattle.vub_model.specs.Shared.{Shared, is_ready, token_in, token_of}
 use Rattle.vub_model.specs.RunOf.{IsLeastPoll}
 use Rattle.vub_model.specs.Service.{Meaning}
 use Rattle.vub_model.specs.Wiring.{Wiring, opened_at}
@@ -35,7 +35,7 @@ least-ready reports (Some x) r is least other among = let same : r.object ≡ x.
 
 module _ {V : Type 0} (g : Wiring) (worker : ℕ) where
   -- the member that the host gave is the one with the least number
-  pub least-row : (opened : Opened) (s : HostSaid) (r : Ready) (a b : Held V) → opened ≡ opened_at g worker → Some r ≡ member_in s → HostCall (host_op.Ready opened.list) s a b → IsLeastPoll g worker a (label.Poll r.object)
+  pub least-row : (opened : Opened) (s : HostSaid) (r : Ready) (a b : Shared V) → opened ≡ opened_at g worker → Some r ≡ member_in s → HostCall (host_op.Ready opened.list) s a b → IsLeastPoll g worker a (label.Poll r.object)
   least-row opened (said.Ready found) r a b is picked call = rw (← is) (least-ready (ready_members a.table opened.list) found r picked call.0.1.0)
   least-row opened said.Done r a b is picked call = absurd cc
   least-row opened (said.Number n) r a b is picked call = absurd cc
@@ -44,13 +44,13 @@ module _ {V : Type 0} (g : Wiring) (worker : ℕ) where
   least-row opened (said.Refused e) r a b is picked call = absurd cc
 
 module _ {V : Type 0} (m : Meaning V) (g : Wiring) (worker : ℕ) where
-  poll-at : (opened : Opened) → opened ≡ opened_at g worker → (s : HostSaid) (r : Ready) (a b : Held V) → Some r ≡ member_in s → HostCall (host_op.Ready opened.list) s a b → Plays m g worker (label.Poll r.object) true Idle (Polled r.object r.token) a b
+  poll-at : (opened : Opened) → opened ≡ opened_at g worker → (s : HostSaid) (r : Ready) (a b : Shared V) → Some r ≡ member_in s → HostCall (host_op.Ready opened.list) s a b → Plays m g worker (label.Poll r.object) true Idle (Polled r.object r.token) a b
   poll-at opened is (said.Ready found) r a b picked call =
       let here = first-ready a.table opened.list r (picked ∙ call.0.1.1) in
       let now : b ≡ a = call.1 ∙ ap (λ (t : HostTable). record a { table = t }) call.0.2 in
-      let local : Held V → ℕ → Local V = λ h token. record { held = h; phase = Polled r.object token } in
+      let local : Shared V → ℕ → Local V = λ h token. record { shared = h; phase = Polled r.object token } in
       let P : Opened → Type 0 = λ o. Plays m g worker (label.Poll r.object) true Idle (Polled r.object r.token) a b in
-      rw (← is) (here.0, ap (λ (h : Held V). local h r.token) now ∙ ap (local a) (sym here.1))
+      rw (← is) (here.0, ap (λ (h : Shared V). local h r.token) now ∙ ap (local a) (sym here.1))
   poll-at opened is said.Done r a b picked call = absurd cc
   poll-at opened is (said.Number n) r a b picked call = absurd cc
   poll-at opened is (said.Count n) r a b picked call = absurd cc
@@ -58,5 +58,5 @@ module _ {V : Type 0} (m : Meaning V) (g : Wiring) (worker : ℕ) where
   poll-at opened is (said.Refused e) r a b picked call = absurd cc
 
   -- the member that the host gave is polled
-  pub poll-row : (opened : Opened) (before now : Phase) (s : HostSaid) (r : Ready) (a b : Held V) → opened ≡ opened_at g worker → before ≡ Idle → now ≡ Polled r.object r.token → Some r ≡ member_in s → HostCall (host_op.Ready opened.list) s a b → Plays m g worker (label.Poll r.object) true before now a b
+  pub poll-row : (opened : Opened) (before now : Phase) (s : HostSaid) (r : Ready) (a b : Shared V) → opened ≡ opened_at g worker → before ≡ Idle → now ≡ Polled r.object r.token → Some r ≡ member_in s → HostCall (host_op.Ready opened.list) s a b → Plays m g worker (label.Poll r.object) true before now a b
   poll-row opened before now s r a b is idle at picked call = rw (idle, at) (poll-at opened is s r a b picked call)

@@ -9,7 +9,7 @@ use Rattle.vub_model.specs.declared.label.Label.{Label}
 use Rattle.vub_model.specs.declared.label.Label.TheVariants as label
 use Rattle.vub_model.specs.declared.phase.Phase.{Phase}
 use Rattle.vub_model.specs.declared.phase.Phase.TheVariants.{Idle, Polled, Served, Stopped}
-use Rattle.vub_model.specs.Held.{Held}
+use Rattle.vub_model.specs.Shared.{Shared}
 use Rattle.vub_model.specs.Service.{Meaning}
 use Rattle.vub_model.specs.Wiring.{Wiring, queues_of}
 use Rattle.vub_model.specs.Work.{Local, put_said, used, serving}
@@ -22,9 +22,9 @@ pub record RowOrFault (Sound Rise Row AfterFault : Type 0) : Type 0 where
   pub sound : Sound → Row
 
 -- A counter was read, which leaves this; or it could not be read, and the worker stops with this error.
-abbrev pub Reads : {V : Type 0} → Type 0 → Type 0 → Local V → VringEpollError → Phase → Held V → Held V → Type 0
+abbrev pub Reads : {V : Type 0} → Type 0 → Type 0 → Local V → VringEpollError → Phase → Shared V → Shared V → Type 0
 Reads Sound Rise local error phase old new =
-    RowOrFault Sound Rise (record { held = new; phase = phase } ≡ local) ((phase ≡ Stopped (Fault error)) × (new ≡ old))
+    RowOrFault Sound Rise (record { shared = new; phase = phase } ≡ local) ((phase ≡ Stopped (Fault error)) × (new ≡ old))
 
 -- the error of a counter that can't be read: of a kick or a listener, or of the bell
 abbrev pub read_error : Wiring → ℕ → ℕ → VringEpollError
@@ -34,7 +34,7 @@ read_error g worker token =
     else HandleEventReadKick
 
 -- what a step leaves in which the host failed
-abbrev pub Faulted : {V : Type 0} → Wiring → ℕ → Phase → Phase → Held V → Held V → Type 0
+abbrev pub Faulted : {V : Type 0} → Wiring → ℕ → Phase → Phase → Shared V → Shared V → Type 0
 Faulted g worker Idle now old new = (now ≡ Stopped (Fault EpollWait)) × (new ≡ old)
 Faulted g worker (Polled object token) now old new = (now ≡ Stopped (Fault (read_error g worker token))) × (new ≡ old)
 Faulted g worker (Served e reply queues) now old new =
@@ -42,11 +42,11 @@ Faulted g worker (Served e reply queues) now old new =
 Faulted g worker phase now old new = ⊥
 
 -- A step, its row or a fault of the host. A step in which the worker stops was played.
-abbrev pub Steps : {V : Type 0} → Type 0 → Type 0 → Meaning V → Wiring → ℕ → Label → Bool → Phase → Phase → Held V → Held V → Type 0
+abbrev pub Steps : {V : Type 0} → Type 0 → Type 0 → Meaning V → Wiring → ℕ → Label → Bool → Phase → Phase → Shared V → Shared V → Type 0
 Steps Sound Rise m g worker l played before now old new =
     RowOrFault Sound Rise (Plays m g worker l played before now old new) ((played ≡ true) × Faulted g worker before now old new)
 
-abbrev pub PollSteps : {V : Type 0} → Type 0 → Type 0 → Meaning V → Wiring → ℕ → Bool → Phase → Phase → Held V → Held V → Type 0
+abbrev pub PollSteps : {V : Type 0} → Type 0 → Type 0 → Meaning V → Wiring → ℕ → Bool → Phase → Phase → Shared V → Shared V → Type 0
 PollSteps Sound Rise m g worker played before now old new =
     RowOrFault Sound Rise (Polls m g worker played before now old new) ((played ≡ true) × Faulted g worker before now old new)
 
@@ -56,7 +56,7 @@ fault_label (Polled object token) = label.Event
 fault_label (Served e reply queues) = label.Put
 fault_label phase = label.Pass
 
-abbrev pub TurnSteps : {V : Type 0} → Type 0 → Type 0 → Meaning V → Wiring → ℕ → Label → Phase → Phase → Held V → Held V → Type 0
+abbrev pub TurnSteps : {V : Type 0} → Type 0 → Type 0 → Meaning V → Wiring → ℕ → Label → Phase → Phase → Shared V → Shared V → Type 0
 TurnSteps Sound Rise m g worker l before now old new =
     RowOrFault Sound Rise (Turns m g worker l before now old new) ((l ≡ fault_label before) × Faulted g worker before now old new)
 

@@ -4,7 +4,7 @@ use Rattle.vub_model.specs.declared.cause.VringEpollError.{VringEpollError}
 use Rattle.vub_model.specs.declared.cause.VringEpollError.TheVariants.{OutOfMemory}
 use Rattle.vub_model.specs.declared.label.Label.{Label}
 use Rattle.vub_model.specs.declared.phase.Phase.{Phase}
-use Rattle.vub_model.specs.Held.{Held}
+use Rattle.vub_model.specs.Shared.{Shared}
 use Rattle.vub_model.specs.RunOf.{IsLeastPoll}
 use Rattle.vub_model.specs.Service.{Meaning}
 use Rattle.vub_model.specs.Wiring.{Wiring}
@@ -47,7 +47,7 @@ PollsLeastBy label_of result h old new =
     AsWorker h result (λ g worker answer. Tells old new (λ a b. IsLeastPoll g worker a (label_of answer)))
 
 -- a counter was read, which leaves this; or it could not be read, and the worker stops with this error
-abbrev pub ReadsBy : {V : Type 0} → PartsState V → PartsState V → Result Phase VringEpollError → (Held V → Local V) → VringEpollError → Type 0
+abbrev pub ReadsBy : {V : Type 0} → PartsState V → PartsState V → Result Phase VringEpollError → (Shared V → Local V) → VringEpollError → Type 0
 ReadsBy old new result local error =
     IfOk result (λ phase. Tells old new (λ a b. Reads old.NeverFails (HasFailed old new) (local a) error phase a b))
 
@@ -60,11 +60,11 @@ pub record StepFrame {V A : Type 0} (before now : VringEpollHandler) (old new : 
   pub same : SameWorker before now
   pub error : IfErr result (λ e. e ≡ OutOfMemory)
   pub err : OnErr result (now ≡ before)
-  pub held : OnErr result (new.held ≡ old.held)
+  pub shared : OnErr result (new.shared ≡ old.shared)
   pub lasts : Lasts old new
 
 -- the same of a read, which does not change the worker
 pub record ReadFrame {V A : Type 0} (old new : PartsState V) (result : Result A VringEpollError) : Type 0 where
   pub error : IfErr result (λ e. e ≡ OutOfMemory)
-  pub held : OnErr result (new.held ≡ old.held)
+  pub shared : OnErr result (new.shared ≡ old.shared)
   pub lasts : Lasts old new

@@ -143,7 +143,7 @@ impl VringEpollHandler {
     ) -> Result<Phase, VringEpollError>
         ensures row { (g : Wiring) (worker : ℕ) → IsHandler g worker self.now
             → ReadsBy (P.state parts.old) (P.state parts.new) result
-            (λ held. after_event g worker held object token) (read_error g worker token) }
+            (λ shared. after_event g worker shared object token) (read_error g worker token) }
         ensures sound { IfOk result IsSound }
         ensures stops { IfOk result (λ phase. IsHostStop phase → HasFailed (P.state parts.old) (P.state parts.new)) }
         ensures frame { ReadFrame (P.state parts.old) (P.state parts.new) result }

@@ -23,7 +23,7 @@ pub(crate) fn kicked<P: Parts>(
     object: u32,
 ) -> Result<Phase, VringEpollError>
     ensures row { ReadsBy (P.state parts.old) (P.state parts.new) result
-        (λ held. after_kick held queue object) VringEpollError.HandleEventReadKick }
+        (λ shared. after_kick shared queue object) VringEpollError.HandleEventReadKick }
     ensures sound { IfOk result IsSound }
     ensures stops { IfOk result (λ phase. IsHostStop phase → HasFailed (P.state parts.old) (P.state parts.new)) }
     ensures frame { ReadFrame (P.state parts.old) (P.state parts.new) result }
@@ -62,7 +62,7 @@ pub(crate) fn rung<P: Parts>(
     opened: Opened,
 ) -> Result<Phase, VringEpollError>
     ensures row { ReadsBy (P.state parts.old) (P.state parts.new) result
-        (λ held. after_bell held opened.bell opened.exit) VringEpollError.HandleVringEnabledEventConsume }
+        (λ shared. after_bell shared opened.bell opened.exit) VringEpollError.HandleVringEnabledEventConsume }
     ensures sound { IfOk result IsSound }
     ensures stops { IfOk result (λ phase. IsHostStop phase → HasFailed (P.state parts.old) (P.state parts.new)) }
     ensures frame { ReadFrame (P.state parts.old) (P.state parts.new) result }
@@ -94,7 +94,7 @@ pub(crate) fn heard<P: Parts>(
     token: u64,
 ) -> Result<Phase, VringEpollError>
     ensures row { ReadsBy (P.state parts.old) (P.state parts.new) result
-        (λ held. after_listener held list object token) VringEpollError.HandleEventReadKick }
+        (λ shared. after_listener shared list object token) VringEpollError.HandleEventReadKick }
     ensures sound { IfOk result IsSound }
     ensures stops { IfOk result (λ phase. IsHostStop phase → HasFailed (P.state parts.old) (P.state parts.new)) }
     ensures frame { ReadFrame (P.state parts.old) (P.state parts.new) result }

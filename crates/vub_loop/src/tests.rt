@@ -43,7 +43,7 @@ struct Silent {
 impl Parts for Silent {
     type Service = Quiet;
 
-    ghost held = { λ _. None };
+    ghost shared = { λ _. None };
 
     ghost loan = { λ _. (0, 0) };
 

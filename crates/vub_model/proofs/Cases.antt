@@ -19,13 +19,13 @@ use Rattle.vub_model.specs.declared.play.Play.TheVariants as play
 use Rattle.vub_model.specs.declared.phase.Phase.{Phase}
 use Rattle.vub_model.specs.declared.phase.Phase.TheVariants.{Idle, Polled, Sweep, Heard, Serving, Taken, Served, Stopped}
 use Rattle.vub_model.specs.RingRecord.{is_on}
-use Rattle.vub_model.specs.Held.{Held, ring_at, count_at, counter_read, is_ready}
+use Rattle.vub_model.specs.Shared.{Shared, ring_at, count_at, counter_read, is_ready}
 use Rattle.vub_model.specs.Wiring.{Wiring, opened_at, queues_of}
-use Rattle.vub_model.specs.Work.{Local, MayWork, after_event, after_kick, after_bell, after_listener, after_heard, stopped, after_take, after_took, after_none, is_object, has_token, is_live, looked}
+use Rattle.vub_model.specs.Work.{Local, MayWork, after_event, after_kick, after_bell, after_listener, after_heard, stopped, after_take, after_took, after_none, is_object, has_token, may_take, looked}
 use Rattle.vub_model.specs.declared.cause.Why.{Why}
 
 -- a worker's step is one of seven
-pub work-cases : {V : Type 0} (g : Wiring) (k : ℕ) (h : Held V) (P : Phase → Play → Type 0)
+pub work-cases : {V : Type 0} (g : Wiring) (k : ℕ) (h : Shared V) (P : Phase → Play → Type 0)
     → ((object : ℕ) → is_ready h.table (opened_at g k).list object ≡ true → P Idle (play.Poll object))
     → ((object token : ℕ) → P (Polled object token) play.Event)
     → P Sweep play.Sweep
@@ -51,33 +51,33 @@ heard-leaf P idle ends (outcome.Object object) = idle
 heard-leaf P idle ends (outcome.Number n) = idle
 heard-leaf P idle ends (outcome.Refused n) = ends (why.Device n)
 
-module _ {V : Type 0} (h : Held V) (P : Local V → Type 0) where
+module _ {V : Type 0} (h : Shared V) (P : Local V → Type 0) where
   pub kick-leaf : (q object : ℕ)
-      → (is_object (ring_at h q).kick object ≡ true → is_on (ring_at h q) ≡ true → P (record { held = counter_read h object; phase = Serving (q ∷ []) }))
-      → (is_object (ring_at h q).kick object ≡ true → is_on (ring_at h q) ≡ false → P (record { held = counter_read h object; phase = Idle }))
-      → (is_object (ring_at h q).kick object ≡ false → P (record { held = h; phase = Idle }))
+      → (is_object (ring_at h q).kick object ≡ true → is_on (ring_at h q) ≡ true → P (record { shared = counter_read h object; phase = Serving (q ∷ []) }))
+      → (is_object (ring_at h q).kick object ≡ true → is_on (ring_at h q) ≡ false → P (record { shared = counter_read h object; phase = Idle }))
+      → (is_object (ring_at h q).kick object ≡ false → P (record { shared = h; phase = Idle }))
       → P (after_kick h q object)
   kick-leaf q object serves drops stale =
-      cond_both {A = Local V} (is_object (ring_at h q).kick object) (record { held = counter_read h object; phase = cond (is_on (ring_at h q)) (Serving (q ∷ [])) Idle }) (record { held = h; phase = Idle }) P
-      (λ own. cond_both (is_on (ring_at h q)) (Serving (q ∷ [])) Idle (λ p. P (record { held = counter_read h object; phase = p })) (serves own) (drops own))
+      cond_both {A = Local V} (is_object (ring_at h q).kick object) (record { shared = counter_read h object; phase = cond (is_on (ring_at h q)) (Serving (q ∷ [])) Idle }) (record { shared = h; phase = Idle }) P
+      (λ own. cond_both (is_on (ring_at h q)) (Serving (q ∷ [])) Idle (λ p. P (record { shared = counter_read h object; phase = p })) (serves own) (drops own))
       stale
 
   pub bell-leaf : (bell : ℕ) (exit : Option ℕ)
-      → (nat_lt 0 (count_at h.table bell) ≡ true → P (record { held = counter_read h bell; phase = Sweep }))
-      → (nat_lt 0 (count_at h.table bell) ≡ false → is_some exit ≡ true → P (record { held = h; phase = Stopped Exit }))
-      → (nat_lt 0 (count_at h.table bell) ≡ false → is_some exit ≡ false → P (record { held = h; phase = Idle }))
+      → (nat_lt 0 (count_at h.table bell) ≡ true → P (record { shared = counter_read h bell; phase = Sweep }))
+      → (nat_lt 0 (count_at h.table bell) ≡ false → is_some exit ≡ true → P (record { shared = h; phase = Stopped Exit }))
+      → (nat_lt 0 (count_at h.table bell) ≡ false → is_some exit ≡ false → P (record { shared = h; phase = Idle }))
       → P (after_bell h bell exit)
   bell-leaf bell exit sweeps ends stale =
-      cond_both {A = Local V} (nat_lt 0 (count_at h.table bell)) (record { held = counter_read h bell; phase = Sweep }) (record { held = h; phase = cond (is_some exit) (Stopped Exit) Idle }) P
+      cond_both {A = Local V} (nat_lt 0 (count_at h.table bell)) (record { shared = counter_read h bell; phase = Sweep }) (record { shared = h; phase = cond (is_some exit) (Stopped Exit) Idle }) P
       sweeps
-      (λ zero. cond_both (is_some exit) (Stopped Exit) Idle (λ p. P (record { held = h; phase = p })) (ends zero) (stale zero))
+      (λ zero. cond_both (is_some exit) (Stopped Exit) Idle (λ p. P (record { shared = h; phase = p })) (ends zero) (stale zero))
 
   pub listener-leaf : (list object token : ℕ)
-      → (has_token (member_of (members_at h.table list) object) token ≡ true → P (record { held = counter_read h object; phase = Heard token }))
-      → (has_token (member_of (members_at h.table list) object) token ≡ false → P (record { held = h; phase = Idle }))
+      → (has_token (member_of (members_at h.table list) object) token ≡ true → P (record { shared = counter_read h object; phase = Heard token }))
+      → (has_token (member_of (members_at h.table list) object) token ≡ false → P (record { shared = h; phase = Idle }))
       → P (after_listener h list object token)
   listener-leaf list object token hears stale =
-      cond_both {A = Local V} (has_token (member_of (members_at h.table list) object) token) (record { held = counter_read h object; phase = Heard token }) (record { held = h; phase = Idle }) P hears stale
+      cond_both {A = Local V} (has_token (member_of (members_at h.table list) object) token) (record { shared = counter_read h object; phase = Heard token }) (record { shared = h; phase = Idle }) P hears stale
 
   -- an event is a kick, the bell or the exit object, or a listener
   pub event-leaf : (g : Wiring) (k object token : ℕ)
@@ -110,23 +110,23 @@ module _ {V : Type 0} (h : Held V) (P : Local V → Type 0) where
   take-leaf q rest entry none damaged = took-leaf q rest entry none damaged (looked h q) refl
 
 -- a Take that finds nothing leaves what is held, but for avail_event
-pub none-leaf : {V : Type 0} (h : Held V) (Q : Held V → Type 0) (q : ℕ)
-    → (is_live (ring_at h q) ≡ true → Q (record h { guest = guest_taken h.guest (ring_at h q).queue took.None }))
-    → (is_live (ring_at h q) ≡ false → Q h)
+pub none-leaf : {V : Type 0} (h : Shared V) (Q : Shared V → Type 0) (q : ℕ)
+    → (may_take (ring_at h q) ≡ true → Q (record h { guest = guest_taken h.guest (ring_at h q).queue took.None }))
+    → (may_take (ring_at h q) ≡ false → Q h)
     → Q (after_none h q)
-none-leaf {V} h Q q tells stays = cond_both {A = Held V} (is_live (ring_at h q)) (record h { guest = guest_taken h.guest (ring_at h q).queue took.None }) h Q tells stays
+none-leaf {V} h Q q tells stays = cond_both {A = Shared V} (may_take (ring_at h q)) (record h { guest = guest_taken h.guest (ring_at h q).queue took.None }) h Q tells stays
 
 -- an Event leaves what is held, or reads one counter
-pub event-held : {V : Type 0} (g : Wiring) (k : ℕ) (h : Held V) (Q : Held V → Type 0) (object token : ℕ) → Q h → ((o : ℕ) → Q (counter_read h o)) → Q (after_event g k h object token).held
-event-held {V} g k h Q object token stays reads =
-    let P : Local V → Type 0 = λ l. Q l.held in
+pub event-shared : {V : Type 0} (g : Wiring) (k : ℕ) (h : Shared V) (Q : Shared V → Type 0) (object token : ℕ) → Q h → ((o : ℕ) → Q (counter_read h o)) → Q (after_event g k h object token).shared
+event-shared {V} g k h Q object token stays reads =
+    let P : Local V → Type 0 = λ l. Q l.shared in
     event-leaf h P g k object token
     (λ below. kick-leaf h P (slice_index (queues_of g k) token) object (λ own on. reads object) (λ own off. reads object) (λ other. stays))
     (λ past same. bell-leaf h P (opened_at g k).bell (opened_at g k).exit (λ above. reads (opened_at g k).bell) (λ zero some. stays) (λ zero none. stays))
     (λ past other. listener-leaf h P (opened_at g k).list object token (λ own. reads object) (λ stale. stays))
 
 -- the phase after an Event: what it may be
-pub event-phase : {V : Type 0} (g : Wiring) (k : ℕ) (h : Held V) (Q : Phase → Type 0) (object token : ℕ) → Q Idle → (token < length (queues_of g k) → Q (Serving (slice_index (queues_of g k) token ∷ []))) → Q Sweep → Q (Stopped Exit) → Q (Heard token) → Q (after_event g k h object token).phase
+pub event-phase : {V : Type 0} (g : Wiring) (k : ℕ) (h : Shared V) (Q : Phase → Type 0) (object token : ℕ) → Q Idle → (token < length (queues_of g k) → Q (Serving (slice_index (queues_of g k) token ∷ []))) → Q Sweep → Q (Stopped Exit) → Q (Heard token) → Q (after_event g k h object token).phase
 event-phase {V} g k h Q object token idle serves sweeps ends hears =
     let P : Local V → Type 0 = λ l. Q l.phase in
     event-leaf h P g k object token

@@ -14,7 +14,7 @@ use Rattle.vub_proto.specs.declared.request.Request.TheVariants as request
 use Rattle.vub_model.specs.declared.setup.Object.TheVariants as object
 use Rattle.vub_model.specs.declared.setup.Setup.{Setup}
 use Rattle.vub_model.specs.declared.small.Small.{Small}
-use Rattle.vub_model.specs.Held.{count_at, ring_at}
+use Rattle.vub_model.specs.Shared.{count_at, ring_at}
 use Rattle.vub_model.specs.World.{World, after_control}
 use Rattle.vub_model.specs.Wiring.{place_of}
 use Rattle.vub_model.specs.Plans.{plan_of}
@@ -61,15 +61,15 @@ unfolding opening plan_of place_of claim_after release_after add_after delete_af
 row-plan = refl
 
 -- the kick is listed under its event number behind the set-up's objects, its number is pending, and the bell is rung
-row-list : members_at end.held.table 0 ≡ listed 0 0 ∷ listed 1 1 ∷ []
+row-list : members_at end.shared.table 0 ≡ listed 0 0 ∷ listed 1 1 ∷ []
 unfolding opening plan_of place_of claim_after release_after add_after delete_after
 row-list = refl
 
-row-pending : end.held.pending ≡ (0 ∷ []) ∷ []
+row-pending : end.shared.pending ≡ (0 ∷ []) ∷ []
 unfolding opening plan_of place_of claim_after release_after add_after delete_after
 row-pending = refl
 
-row-bell : count_at end.held.table 1 ≡ 1
+row-bell : count_at end.shared.table 1 ≡ 1
 unfolding opening plan_of place_of claim_after release_after add_after delete_after
 row-bell = refl
 
@@ -106,18 +106,18 @@ stop-answer : stopped.control.answers ≡ answer.Failed (error.ReqHandlerError (
 unfolding opening plan_of place_of claim_after release_after add_after delete_after
 stop-answer = refl
 
-stop-list : members_at stopped.held.table 0 ≡ listed 1 1 ∷ []
+stop-list : members_at stopped.shared.table 0 ≡ listed 1 1 ∷ []
 unfolding opening plan_of place_of claim_after release_after add_after delete_after
 stop-list = refl
 
-stop-ring : known_of (ring_at stopped.held 0) ≡ record { kick = Some 0; ready = false; enabled = true }
+stop-ring : known_of (ring_at stopped.shared 0) ≡ record { kick = Some 0; ready = false; enabled = true }
 unfolding opening plan_of place_of claim_after release_after add_after delete_after
 stop-ring = refl
 
 abbrev again : World ℕ
 again = refuse-on (tt ∷ tt ∷ tt ∷ tt ∷ tt ∷ tt ∷ []) stopped
 
-again-list : members_at again.held.table 0 ≡ listed 0 0 ∷ listed 1 1 ∷ []
+again-list : members_at again.shared.table 0 ≡ listed 0 0 ∷ listed 1 1 ∷ []
 unfolding opening plan_of place_of claim_after release_after add_after delete_after
 again-list = refl
 

@@ -17,7 +17,7 @@ use Rattle.vub_model.specs.declared.setup.Guest.TheVariants.{Store, Signal}
 use Rattle.vub_model.specs.declared.small.Small.{Small}
 use Rattle.vub_model.specs.declared.small.Small.TheVariants.{Claim, Release, Add, Delete, Listen, Unlisten, Bell, Remove, Insert, Set, Info, Table, Log, Device, Answer as Answering}
 use Rattle.vub_model.specs.RingRecord.{Vring, waits, fits, limit, changed, ring_after}
-use Rattle.vub_model.specs.Held.{Held, ring_at, with_ring}
+use Rattle.vub_model.specs.Shared.{Shared, ring_at, with_ring}
 use Rattle.vub_model.specs.Wiring.{Wiring}
 use Rattle.vub_model.specs.Work.{Local, MayWork, after_work, after_take, after_put, after_said, called, used, put_said}
 use Rattle.vub_model.specs.Control.{small_after, next_used_at, tail_of, answers_by, answer_of}
@@ -27,7 +27,7 @@ use Rattle.vub_model.specs.World.{World, May, after, after_guest, phase_at}
 use Rattle.vub_model.specs.RunOf.{party_of, IsRun}
 use Rattle.vub_model.specs.Running.{calm_after}
 use Rattle.vub_model.specs.Schedule.{Fits, SetFits, Invariant}
-use Rattle.vub_model.proofs.Cases.{work-cases, event-held, take-leaf, none-leaf, said-cases}
+use Rattle.vub_model.proofs.Cases.{work-cases, event-shared, take-leaf, none-leaf, said-cases}
 use Rattle.vub_model.proofs.Turns.{turn-cases}
 use Rattle.vub_model.proofs.Live.{looked-live, live-taken}
 use Rattle.vub_model.proofs.SchedControl.{first-fits}
@@ -38,7 +38,7 @@ use Rattle.vub_model.specs.Plans.{Plan, next_of}
 abbrev pub IsCounted : Vring → Type 0
 IsCounted r = r.queue.next_avail ≡ (r.base + r.taken) % 2 ^ 16
 
-abbrev pub Counted : {V : Type 0} → Held V → Type 0
+abbrev pub Counted : {V : Type 0} → Shared V → Type 0
 Counted h = (q : ℕ) → IsCounted (ring_at h q)
 
 one-more : (a n : ℕ) → n ≡ a % 2 ^ 16 → (n + 1) % 2 ^ 16 ≡ (a + 1) % 2 ^ 16
@@ -73,14 +73,14 @@ module _ (g : Wiring) (f : Frame) (q : ℕ) (r : Vring) (at : IsCounted r) where
   counted-info desc avail used None = kept-if (op.SetInfo desc avail used None) at
   counted-info desc avail used (Some n) = kept-if (op.SetInfo desc avail used (Some n)) at
 
-set-counted : {V : Type 0} (h : Held V) (p : ℕ) (r : Vring) → (IsCounted (ring_at h p) → IsCounted r) → Counted h → Counted (with_ring h p r)
+set-counted : {V : Type 0} (h : Shared V) (p : ℕ) (r : Vring) → (IsCounted (ring_at h p) → IsCounted r) → Counted h → Counted (with_ring h p r)
 set-counted h p r new counted q = ring-all h p r (λ q r. IsCounted r) new q (counted q)
 
-module _ {V : Type 0} (g : Wiring) (h : Held V) (counted : Counted h) where
+module _ {V : Type 0} (g : Wiring) (h : Shared V) (counted : Counted h) where
   abbrev After : Local V → Type 0
-  After local = Counted local.held
+  After local = Counted local.shared
 
-  same-rings : (z : Held V) → z.rings ≡ h.rings → Counted z
+  same-rings : (z : Shared V) → z.rings ≡ h.rings → Counted z
   same-rings z same q = rw same (counted q)
 
   take-counted : (queues : List ℕ) → After (after_take h queues)
@@ -91,7 +91,7 @@ module _ {V : Type 0} (g : Wiring) (h : Held V) (counted : Counted h) where
       (λ is. none-leaf h (λ x. Counted x) p (λ live. counted) (λ dead. counted))
       (λ d is. counted)
 
-  called-counted : (z : Held V) (call : Option ℕ) (wanted : Bool) → Counted z → Counted (called z call wanted)
+  called-counted : (z : Shared V) (call : Option ℕ) (wanted : Bool) → Counted z → Counted (called z call wanted)
   called-counted z call false at = at
   called-counted z None true at = at
   called-counted z (Some object) true at = at
@@ -106,22 +106,22 @@ module _ {V : Type 0} (g : Wiring) (h : Held V) (counted : Counted h) where
   work-counted m k =
       work-cases g k h (λ phase l. After (after_work m g k h phase l))
       (λ object ready. counted)
-      (λ object token. event-held g k h (λ x. Counted x) object token counted (λ o. counted))
+      (λ object token. event-shared g k h (λ x. Counted x) object token counted (λ o. counted))
       counted
       (λ token said. counted)
       take-counted
       (λ e queues. counted)
       put-counted
 
-module _ {V : Type 0} (m : Meaning V) (w : World V) (calm : ℕ → Bool) (i : Invariant w calm) (counted : Counted w.held) where
-  guest-counted : (actions : List Guest) → Counted (after_guest w actions).held
+module _ {V : Type 0} (m : Meaning V) (w : World V) (calm : ℕ → Bool) (i : Invariant w calm) (counted : Counted w.shared) where
+  guest-counted : (actions : List Guest) → Counted (after_guest w actions).shared
   guest-counted [] = counted
   guest-counted (Store object offset bytes ∷ actions) = counted
   guest-counted (Signal object ∷ actions) = counted
 
-  small-counted : (s : Small) → Fits w.wiring (frame_of w.held) w.control.plan.reply s (tail_of w.control.plan.steps) → Counted (small_after w.wiring w.held s)
-  small-counted (Set p o) ok = set-counted w.held p (ring_after (ring_at w.held p) o) (λ was. counted-op w.wiring (frame_of w.held) p (ring_at w.held p) was o ok.1) counted
-  small-counted (Info p desc avail used) ok = set-counted w.held p (ring_after (ring_at w.held p) (op.SetInfo desc avail used (next_used_at w.held.guest used))) (λ was. counted-info w.wiring (frame_of w.held) p (ring_at w.held p) was desc avail used (next_used_at w.held.guest used)) counted
+  small-counted : (s : Small) → Fits w.wiring (frame_of w.shared) w.control.plan.reply s (tail_of w.control.plan.steps) → Counted (small_after w.wiring w.shared s)
+  small-counted (Set p o) ok = set-counted w.shared p (ring_after (ring_at w.shared p) o) (λ was. counted-op w.wiring (frame_of w.shared) p (ring_at w.shared p) was o ok.1) counted
+  small-counted (Info p desc avail used) ok = set-counted w.shared p (ring_after (ring_at w.shared p) (op.SetInfo desc avail used (next_used_at w.shared.guest used))) (λ was. counted-info w.wiring (frame_of w.shared) p (ring_at w.shared p) was desc avail used (next_used_at w.shared.guest used)) counted
   small-counted (Claim o p) ok = counted
   small-counted (Release o) ok = counted
   small-counted (Add k o n) ok = counted
@@ -136,23 +136,23 @@ module _ {V : Type 0} (m : Meaning V) (w : World V) (calm : ℕ → Bool) (i : I
   small-counted (Device call) ok = counted
   small-counted Answering ok = counted
 
-  step-counted : (p : Party) (l : Play) → May w p l → Counted (after m w p l).held
+  step-counted : (p : Party) (l : Play) → May w p l → Counted (after m w p l).shared
   step-counted party.Guest play.Guest may = guest-counted w.guest
   step-counted party.Control (play.Control s said) may = small-counted s (first-fits w calm i s said may)
-  step-counted (party.Worker k) l may = work-counted w.wiring w.held counted m k (phase_at w.phases k) l may
+  step-counted (party.Worker k) l may = work-counted w.wiring w.shared counted m k (phase_at w.phases k) l may
   step-counted p l may = absurd may
 
-pub counted-run : {V : Type 0} (m : Meaning V) (turns : List ℕ) (labels : List Play) (w z : World V) (calm : ℕ → Bool) → IsFew w (length turns) → Invariant w calm → Counted w.held → IsRun m turns labels w z → Counted z.held
-counted-run {V} m [] [] w z calm few i counted run = subst (λ (x : World V). Counted x.held) (sym run) counted
+pub counted-run : {V : Type 0} (m : Meaning V) (turns : List ℕ) (labels : List Play) (w z : World V) (calm : ℕ → Bool) → IsFew w (length turns) → Invariant w calm → Counted w.shared → IsRun m turns labels w z → Counted z.shared
+counted-run {V} m [] [] w z calm few i counted run = subst (λ (x : World V). Counted x.shared) (sym run) counted
 counted-run m [] (l ∷ labels) w z calm few i counted run = absurd run
 counted-run m (turn ∷ turns) [] w z calm few i counted run = absurd run
 counted-run {V} m (turn ∷ turns) (l ∷ labels) w z calm few i counted run =
     let p = party_of turn in
     let now = invariant-turn m w p run.0 calm (λ q. omega (arith, few q)) i l run.1 in
     let still = few-turn m w p run.0 calm (length turns) (λ q. omega (arith, few q)) i l run.1 in
-    let mid : Counted run.0.held = turn-cases m w p run.0 (λ l. Counted run.0.held) (λ same. subst (λ (x : World V). Counted x.held) (sym same) counted) (λ l may is. subst (λ (x : World V). Counted x.held) (sym is) (step-counted m w calm i counted p l may)) l run.1 in
+    let mid : Counted run.0.shared = turn-cases m w p run.0 (λ l. Counted run.0.shared) (λ same. subst (λ (x : World V). Counted x.shared) (sym same) counted) (λ l may is. subst (λ (x : World V). Counted x.shared) (sym is) (step-counted m w calm i counted p l may)) l run.1 in
     counted-run m turns labels run.0 z (calm_after w p l run.0 calm) still now mid run.2
 
 -- what an Answer tells that is due a base: the ring's base plus the entries taken since, modulo 2^16
-pub answered-base : {V : Type 0} (h : Held V) → Counted h → (p : Plan) (queue : ℕ) → p.reply ≡ next_of queue → answers_by h Answering p ≡ answer.Base queue (((ring_at h queue).base + (ring_at h queue).taken) % 2 ^ 16) ∷ []
+pub answered-base : {V : Type 0} (h : Shared V) → Counted h → (p : Plan) (queue : ℕ) → p.reply ≡ next_of queue → answers_by h Answering p ≡ answer.Base queue (((ring_at h queue).base + (ring_at h queue).taken) % 2 ^ 16) ∷ []
 answered-base h counted p queue is = ap (λ r. answer_of h r ∷ []) is ∙ ap (λ n. answer.Base queue n ∷ []) (counted queue)

@@ -20,7 +20,7 @@ use Rattle.vub_model.specs.declared.setup.Guest.TheVariants.{Store, Signal}
 use Rattle.vub_model.specs.declared.small.Small.{Small}
 use Rattle.vub_model.specs.declared.small.Small.TheVariants.{Claim, Release, Add, Delete, Listen, Unlisten, Bell, Remove, Insert, Set, Info, Table, Log, Device, Answer as Answering}
 use Rattle.vub_model.specs.RingRecord.{Vring, waits, fits, based, limit, changed, ring_after}
-use Rattle.vub_model.specs.Held.{Held, ring_at, with_ring}
+use Rattle.vub_model.specs.Shared.{Shared, ring_at, with_ring}
 use Rattle.vub_model.specs.Wiring.{Wiring}
 use Rattle.vub_model.specs.Work.{Local, MayWork, after_work, after_take, after_took, after_put, after_said, called, used, put_said, looked, entry_of}
 use Rattle.vub_model.specs.Control.{MayControl, small_after, next_used_at, tail_of}
@@ -32,7 +32,7 @@ use Rattle.vub_model.specs.Running.{calm_after}
 use Rattle.vub_model.specs.Headline.{takes_of, numbers, count_up, Numbered, RingNumbered, IsFresh}
 use Rattle.vub_model.specs.Schedule.{Fits, SetFits, Invariant}
 use Rattle.vub_model.specs.Bases.{given_by, bases_given, FromBases}
-use Rattle.vub_model.proofs.Cases.{work-cases, event-held, take-leaf, none-leaf, said-cases}
+use Rattle.vub_model.proofs.Cases.{work-cases, event-shared, take-leaf, none-leaf, said-cases}
 use Rattle.vub_model.proofs.Turns.{turn-cases, turn-next}
 use Rattle.vub_model.proofs.Live.{looked-live, live-taken, serving-takes}
 use Rattle.vub_model.proofs.Counting.{field-kept, ring-own, ring-other}
@@ -50,7 +50,7 @@ use Rattle.vub_model.proofs.OpeningMeets.{opening-meets, opening-untaken}
 
 -- Each queue has its bases
 abbrev pub AllFrom : {V : Type 0} → World V → (ℕ → List ℕ) → Type 0
-AllFrom w bases = (q : ℕ) → FromBases (bases q) (ring_at w.held q) (takes_of q w.takes)
+AllFrom w bases = (q : ℕ) → FromBases (bases q) (ring_at w.shared q) (takes_of q w.takes)
 
 -- epoch and base stay, and no take is added to an earlier epoch
 pub record Stays (old new : Vring) (takes more : List Take) : Type 0 where
@@ -65,11 +65,11 @@ stays-from bases old new takes more s from = record {
   each = λ e low. let was = from.each e (omega (arith, low, s.epoch)) in (was.0, s.past e (omega (arith, low, s.epoch)) ∙ was.1);
 }
 
-module _ {V : Type 0} (g : Wiring) (h : Held V) (takes : List Take) where
+module _ {V : Type 0} (g : Wiring) (h : Shared V) (takes : List Take) where
   abbrev After : Play → Local V → Type 0
-  After l local = (q : ℕ) → Stays (ring_at h q) (ring_at local.held q) (takes_of q takes) (takes_of q (takes ++ takes_by l local.phase))
+  After l local = (q : ℕ) → Stays (ring_at h q) (ring_at local.shared q) (takes_of q takes) (takes_of q (takes ++ takes_by l local.phase))
 
-  still : (l : Play) (local : Local V) → takes_by l local.phase ≡ [] → ((q : ℕ) → (ring_at local.held q).epoch ≡ (ring_at h q).epoch) → ((q : ℕ) → (ring_at local.held q).base ≡ (ring_at h q).base) → After l local
+  still : (l : Play) (local : Local V) → takes_by l local.phase ≡ [] → ((q : ℕ) → (ring_at local.shared q).epoch ≡ (ring_at h q).epoch) → ((q : ℕ) → (ring_at local.shared q).base ≡ (ring_at h q).base) → After l local
   still l local none epochs bases q = record { epoch = epochs q; base = bases q; past = λ e low. rw (none, append-nil takes) refl }
 
   entry-stays : (p : ℕ) (rest : List ℕ) (c : Chain) → looked h p ≡ took.Entry c → After play.Take (after_took h p rest (took.Entry c))
@@ -96,7 +96,7 @@ module _ {V : Type 0} (g : Wiring) (h : Held V) (takes : List Take) where
       (λ is. still play.Take (after_took h p rest took.None) (serving-takes rest) (none-leaf h (λ x. (q : ℕ) → (ring_at x q).epoch ≡ (ring_at h q).epoch) p (λ live q. refl) (λ dead q. refl)) (none-leaf h (λ x. (q : ℕ) → (ring_at x q).base ≡ (ring_at h q).base) p (λ live q. refl) (λ dead q. refl)))
       (λ d is. still play.Take (after_took h p rest (took.Damaged d)) refl (λ q. refl) (λ q. refl))
 
-  called-field : {X : Type 0} (f : Vring → X) (z : Held V) (call : Option ℕ) (wanted : Bool) (q : ℕ) → f (ring_at (called z call wanted) q) ≡ f (ring_at z q)
+  called-field : {X : Type 0} (f : Vring → X) (z : Shared V) (call : Option ℕ) (wanted : Bool) (q : ℕ) → f (ring_at (called z call wanted) q) ≡ f (ring_at z q)
   called-field f z call false q = refl
   called-field f z None true q = refl
   called-field f z (Some object) true q = refl
@@ -115,7 +115,7 @@ module _ {V : Type 0} (g : Wiring) (h : Held V) (takes : List Take) where
   work-stays m k =
       work-cases g k h (λ phase l. After l (after_work m g k h phase l))
       (λ object ready. still (play.Poll object) (after_work m g k h Idle (play.Poll object)) refl (λ q. refl) (λ q. refl))
-      (λ object token. still play.Event (after_work m g k h (Polled object token) play.Event) refl (event-held g k h (λ x. (q : ℕ) → (ring_at x q).epoch ≡ (ring_at h q).epoch) object token (λ q. refl) (λ o q. refl)) (event-held g k h (λ x. (q : ℕ) → (ring_at x q).base ≡ (ring_at h q).base) object token (λ q. refl) (λ o q. refl)))
+      (λ object token. still play.Event (after_work m g k h (Polled object token) play.Event) refl (event-shared g k h (λ x. (q : ℕ) → (ring_at x q).epoch ≡ (ring_at h q).epoch) object token (λ q. refl) (λ o q. refl)) (event-shared g k h (λ x. (q : ℕ) → (ring_at x q).base ≡ (ring_at h q).base) object token (λ q. refl) (λ o q. refl)))
       (still play.Sweep (after_work m g k h Sweep play.Sweep) refl (λ q. refl) (λ q. refl))
       (λ token said. still (play.Hear said) (after_work m g k h (Heard token) (play.Hear said)) refl (λ q. refl) (λ q. refl))
       take-stays
@@ -153,8 +153,8 @@ info-epoch : (r : Vring) (desc avail used : ℕ) (more : Option ℕ) → ((ring_
 info-epoch r desc avail used more = cond_both {A = Vring} (not (waits r (op.SetInfo desc avail used more)) && fits r (op.SetInfo desc avail used more)) (changed r (op.SetInfo desc avail used more)) r (λ x. (x.epoch ≡ r.epoch) × (x.base ≡ r.base)) (λ _. (refl, refl)) (λ _. (refl, refl))
 
 module _ {V : Type 0} (w : World V) (calm : ℕ → Bool) (i : Invariant w calm) (numbered : Numbered w) (bases : ℕ → List ℕ) (from : AllFrom w bases) where
-  abbrev h : Held V
-  h = w.held
+  abbrev h : Shared V
+  h = w.shared
 
   abbrev Now : Small → DeviceSaid → ℕ → Type 0
   Now s said q = FromBases (bases q ++ given_by w party.Control (play.Control s said) q) (ring_at (small_after w.wiring h s) q) (takes_of q w.takes)
@@ -238,7 +238,7 @@ none-given w party.Control q = refl
 none-given w (party.Worker k) q = refl
 
 pub epochs-from : {V : Type 0} (m : Meaning V) (turns : List ℕ) (labels : List Play) (w z : World V) (calm : ℕ → Bool) (bases : ℕ → List ℕ) → IsFew w (length turns) → Invariant w calm → Numbered w → AllFrom w bases → IsRun m turns labels w z → AllFrom z (λ q. bases q ++ bases_given m turns labels w q)
-epochs-from {V} m [] [] w z calm bases few i numbered from run q = rw (append-nil (bases q)) (subst (λ (x : World V). FromBases (bases q) (ring_at x.held q) (takes_of q x.takes)) (sym run) (from q))
+epochs-from {V} m [] [] w z calm bases few i numbered from run q = rw (append-nil (bases q)) (subst (λ (x : World V). FromBases (bases q) (ring_at x.shared q) (takes_of q x.takes)) (sym run) (from q))
 epochs-from m [] (l ∷ labels) w z calm bases few i numbered from run q = absurd run
 epochs-from m (turn ∷ turns) [] w z calm bases few i numbered from run q = absurd run
 epochs-from {V} m (turn ∷ turns) (l ∷ labels) w z calm bases few i numbered from run q =
@@ -247,27 +247,27 @@ epochs-from {V} m (turn ∷ turns) (l ∷ labels) w z calm bases few i numbered 
     let still = few-turn m w p run.0 calm (length turns) (λ q. omega (arith, few q)) i l run.1 in
     let mid : AllFrom run.0 (λ q. bases q ++ given_by w p l q) =
       turn-cases m w p run.0 (λ l. AllFrom run.0 (λ q. bases q ++ given_by w p l q))
-      (λ same q. rw (none-given w p q, append-nil (bases q)) (subst (λ (x : World V). FromBases (bases q) (ring_at x.held q) (takes_of q x.takes)) (sym same) (from q)))
+      (λ same q. rw (none-given w p q, append-nil (bases q)) (subst (λ (x : World V). FromBases (bases q) (ring_at x.shared q) (takes_of q x.takes)) (sym same) (from q)))
       (λ l may is. subst (λ (x : World V). AllFrom x (λ q. bases q ++ given_by w p l q)) (sym is) (step-from w calm i numbered bases from m p l may)) l run.1 in
     let count : Numbered run.0 =
       turn-cases m w p run.0 (λ l. Numbered run.0) (λ same. subst (λ (x : World V). Numbered x) (sym same) numbered)
       (λ l may is. subst (λ (x : World V). Numbered x) (sym is) (number-step m w numbered (λ s said ok. number-small w calm i numbered s said ok) p l may)) l run.1 in
     let rest = epochs-from m turns labels run.0 z (calm_after w p l run.0 calm) (λ q. bases q ++ given_by w p l q) still now count mid run.2 q in
     let same : (bases q ++ given_by w p l q) ++ bases_given m turns labels run.0 q ≡ bases q ++ (given_by w p l q ++ bases_given m turns labels (next m w p l) q) = append_assoc (bases q) (given_by w p l q) (bases_given m turns labels run.0 q) ∙ ap (λ x. bases q ++ (given_by w p l q ++ bases_given m turns labels x q)) (turn-next m w p l run.0 run.1) in
-    subst (λ b. FromBases b (ring_at z.held q) (takes_of q z.takes)) same rest
+    subst (λ b. FromBases b (ring_at z.shared q) (takes_of q z.takes)) same rest
 
 -- at the opening each queue has its given base
-opening-from : {V : Type 0} (w : World V) → IsFresh w → AllFrom w (λ q. (ring_at w.held q).base ∷ [])
+opening-from : {V : Type 0} (w : World V) → IsFresh w → AllFrom w (λ q. (ring_at w.shared q).base ∷ [])
 opening-from w fresh q = record {
   count = (let e = fresh.first_epoch q in omega (arith, e));
-  last = ap (λ e. slice_index_or ((ring_at w.held q).base ∷ []) e 0) (fresh.first_epoch q);
+  last = ap (λ e. slice_index_or ((ring_at w.shared q).base ∷ []) e 0) (fresh.first_epoch q);
   each = λ e low. absurd (let f = fresh.first_epoch q in omega (arith, low, f));
 }
 
 -- In every run of a valid set-up each epoch of a queue has its base: the given one, and then those of its accepted changes.
 pub epochs-of-setup : {V : Type 0} (m : Meaning V) (constants : Constants) (setup : Setup) (v : V) (turns : List ℕ) (labels : List Play) (z : World V) → length turns < limit → IsValid constants setup
-    → IsRun m turns labels (opening constants setup v) z → AllFrom z (λ q. (ring_at (opening constants setup v).held q).base ∷ bases_given m turns labels (opening constants setup v) q)
+    → IsRun m turns labels (opening constants setup v) z → AllFrom z (λ q. (ring_at (opening constants setup v).shared q).base ∷ bases_given m turns labels (opening constants setup v) q)
 epochs-of-setup m constants setup v turns labels z short valid run =
     let w = opening constants setup v in
     let fresh = opening-is-fresh constants setup v in
-    epochs-from m turns labels w z (is_registered setup.rings) (λ q. (ring_at w.held q).base ∷ []) (λ q. omega (arith, short, opening-untaken constants setup v valid q)) (opening-meets constants setup v valid) (fresh-numbered w fresh) (opening-from w fresh) run
+    epochs-from m turns labels w z (is_registered setup.rings) (λ q. (ring_at w.shared q).base ∷ []) (λ q. omega (arith, short, opening-untaken constants setup v valid q)) (opening-meets constants setup v valid) (fresh-numbered w fresh) (opening-from w fresh) run

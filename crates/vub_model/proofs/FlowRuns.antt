@@ -17,7 +17,7 @@ use Rattle.vub_model.specs.declared.phase.Phase.TheVariants.{Idle, Sweep, Heard,
 use Rattle.vub_model.specs.declared.records.Take.{Take}
 use Rattle.vub_model.specs.declared.setup.Guest.{Guest}
 use Rattle.vub_model.specs.declared.setup.Guest.TheVariants.{Store, Signal}
-use Rattle.vub_model.specs.Held.{Held, ring_at}
+use Rattle.vub_model.specs.Shared.{Shared, ring_at}
 use Rattle.vub_model.specs.Service.{Meaning}
 use Rattle.vub_model.specs.Wiring.{HasWorker, Wiring}
 use Rattle.vub_model.specs.Work.{Local, MayWork, after_work, after_take, after_put, after_said, after_sweep, after_heard, called, used, put_said}
@@ -25,19 +25,19 @@ use Rattle.vub_model.specs.World.{World, May, after, after_guest, after_local, p
 use Rattle.vub_model.specs.RunOf.{IsRun, next, party_of}
 use Rattle.vub_model.specs.Running.{InHand, InFlightOrHeld}
 use Rattle.vub_model.specs.Headline.{Asked, asked_take, asked_at, asked, OnceInOrder, IsReplay, IsFresh, IsWaiting}
-use Rattle.vub_model.proofs.Cases.{work-cases, heard-leaf, event-held, take-leaf, none-leaf, said-cases}
+use Rattle.vub_model.proofs.Cases.{work-cases, heard-leaf, event-shared, take-leaf, none-leaf, said-cases}
 use Rattle.vub_model.proofs.Turns.{turn-cases, turn-next}
 use Rattle.vub_model.proofs.Owners.{Owned, OwnPhase, within-phases}
 use Rattle.vub_model.proofs.Flow.{Flow, FlowAt, FliesIn, NoneFlies, queue_in}
 use Rattle.vub_model.proofs.FlowSteps.{asked_by, quiet, event, take, serve, put, serving-none}
 use Rattle.vub_proto.specs.declared.device_said.DeviceSaid.{DeviceSaid}
 
-asked-same : {V : Type 0} (m : Meaning V) (w : World V) (k : ℕ) (l : Play) → asked_at m w (party.Worker k) l ≡ asked_by m w.held.service (phase_at w.phases k) l
+asked-same : {V : Type 0} (m : Meaning V) (w : World V) (k : ℕ) (l : Play) → asked_at m w (party.Worker k) l ≡ asked_by m w.shared.service (phase_at w.phases k) l
 asked-same m w k play.Serve = refl
 asked-same m w k l = refl
 
 -- a control step asks no service
-service-small : {V : Type 0} (g : Wiring) (h : Held V) (s : Small) → (small_after g h s).service ≡ h.service
+service-small : {V : Type 0} (g : Wiring) (h : Shared V) (s : Small) → (small_after g h s).service ≡ h.service
 service-small g h (Claim object queue) = refl
 service-small g h (Release object) = refl
 service-small g h (Add worker object token) = refl
@@ -55,19 +55,19 @@ service-small g h (Device call) = refl
 service-small g h Answering = refl
 
 module _ {V : Type 0} (m : Meaning V) (w : World V) (calls : List Asked) (flow : Flow w calls) (owned : Owned w) where
-  flow-inside : (k : ℕ) → k < length w.phases → (phase : Phase) (l : Play) → MayWork w.wiring k w.held phase l → phase_at w.phases k ≡ phase → OwnPhase w.wiring k phase → Flow (after_local w k l phase (after_work m w.wiring k w.held phase l)) (calls ++ asked_by m w.held.service phase l)
+  flow-inside : (k : ℕ) → k < length w.phases → (phase : Phase) (l : Play) → MayWork w.wiring k w.shared phase l → phase_at w.phases k ≡ phase → OwnPhase w.wiring k phase → Flow (after_local w k l phase (after_work m w.wiring k w.shared phase l)) (calls ++ asked_by m w.shared.service phase l)
   flow-inside k within =
-      work-cases w.wiring k w.held (λ phase l. phase_at w.phases k ≡ phase → OwnPhase w.wiring k phase → Flow (after_local w k l phase (after_work m w.wiring k w.held phase l)) (calls ++ asked_by m w.held.service phase l))
-      (λ object ready was own. quiet w calls flow k within Idle (after_work m w.wiring k w.held Idle (play.Poll object)) was refl (λ h. h) refl refl)
+      work-cases w.wiring k w.shared (λ phase l. phase_at w.phases k ≡ phase → OwnPhase w.wiring k phase → Flow (after_local w k l phase (after_work m w.wiring k w.shared phase l)) (calls ++ asked_by m w.shared.service phase l))
+      (λ object ready was own. quiet w calls flow k within Idle (after_work m w.wiring k w.shared Idle (play.Poll object)) was refl (λ h. h) refl refl)
       (λ object token was own. event w calls flow k within w.wiring object token was)
-      (λ was own. quiet w calls flow k within Sweep (after_sweep w.wiring k w.held) was refl (λ h. h) (serving-none _) refl)
-      (λ token said was own. quiet w calls flow k within (Heard token) (record { held = w.held; phase = after_heard said }) was refl (λ h. h) (heard-leaf (λ p. queue_in p ≡ None) refl (λ n. refl) said) refl)
+      (λ was own. quiet w calls flow k within Sweep (after_sweep w.wiring k w.shared) was refl (λ h. h) (serving-none _) refl)
+      (λ token said was own. quiet w calls flow k within (Heard token) (record { shared = w.shared; phase = after_heard said }) was refl (λ h. h) (heard-leaf (λ p. queue_in p ≡ None) refl (λ n. refl) said) refl)
       (λ queues was own. take w calls flow k within queues own was)
       (λ e queues was own. serve w calls flow k within m e queues was)
       (λ e reply queues was own. put w calls flow k within e reply queues own was)
 
-  flow-worker : (k : ℕ) (l : Play) → MayWork w.wiring k w.held (phase_at w.phases k) l → Flow (after m w (party.Worker k) l) (calls ++ asked_by m w.held.service (phase_at w.phases k) l)
-  flow-worker k l may = flow-inside k (within-phases w.wiring w.held w.phases k l may) (phase_at w.phases k) l may refl (owned.phases k)
+  flow-worker : (k : ℕ) (l : Play) → MayWork w.wiring k w.shared (phase_at w.phases k) l → Flow (after m w (party.Worker k) l) (calls ++ asked_by m w.shared.service (phase_at w.phases k) l)
+  flow-worker k l may = flow-inside k (within-phases w.wiring w.shared w.phases k l may) (phase_at w.phases k) l may refl (owned.phases k)
 
   flow-guest : (actions : List Guest) → Flow (after_guest w actions) (calls ++ [])
   flow-guest [] = rw (append-nil calls) flow
@@ -75,10 +75,10 @@ module _ {V : Type 0} (m : Meaning V) (w : World V) (calls : List Asked) (flow :
   flow-guest (Signal object ∷ actions) = rw (append-nil calls) flow
 
   -- a control step moves no entry
-  flow-control : (s : Small) (said : DeviceSaid) → ((q : ℕ) → (ring_at (small_after w.wiring w.held s) q).flight ≡ (ring_at w.held q).flight) → Flow (after_control w s said) (calls ++ [])
+  flow-control : (s : Small) (said : DeviceSaid) → ((q : ℕ) → (ring_at (small_after w.wiring w.shared s) q).flight ≡ (ring_at w.shared q).flight) → Flow (after_control w s said) (calls ++ [])
   flow-control s said flights q = rw (append-nil calls, flights q) (flow q)
 
-  module _ (flights : (s : Small) (said : DeviceSaid) → MayControl w.held w.control.plan.steps s said → (q : ℕ) → (ring_at (small_after w.wiring w.held s) q).flight ≡ (ring_at w.held q).flight) where
+  module _ (flights : (s : Small) (said : DeviceSaid) → MayControl w.shared w.control.plan.steps s said → (q : ℕ) → (ring_at (small_after w.wiring w.shared s) q).flight ≡ (ring_at w.shared q).flight) where
    pub flow-step : (p : Party) (l : Play) → May w p l → Flow (after m w p l) (calls ++ asked_at m w p l)
    flow-step party.Guest play.Guest may = flow-guest w.guest
    flow-step (party.Worker k) l may = subst (λ c. Flow (after m w (party.Worker k) l) (calls ++ c)) (sym (asked-same m w k l)) (flow-worker k l may)
@@ -110,7 +110,7 @@ module _ {V : Type 0} (w : World V) (owned : Owned w) (q : ℕ) (takes : List Ta
       (way, inl (k, subst (λ n. HasWorker w.wiring n k) f.0 own.0, subst H (sym is) refl))
   flies-goes k phase is own f = absurd f
 
-  pub flow-goes : (f : Flight) → (ring_at w.held q).flight ≡ f → FlowAt w.wiring q f (phase_at w.phases) takes calls uses → Goes w q takes calls uses
+  pub flow-goes : (f : Flight) → (ring_at w.shared q).flight ≡ f → FlowAt w.wiring q f (phase_at w.phases) takes calls uses → Goes w q takes calls uses
   flow-goes flight.None is flow = (record { unasked = []; unused = []; served = flow.0 ∙ sym (append-nil (map asked_take calls)); used = flow.1 ∙ sym (append-nil uses); at_most_one = omega arith }, tt)
   flow-goes flight.Held is flow =
       let way : OnceInOrder takes calls uses = record { unasked = []; unused = flow.1.0 ∷ []; served = flow.0 ∙ sym (append-nil (map asked_take calls)); used = flow.1.1; at_most_one = omega arith } in
@@ -134,59 +134,59 @@ replay-append {V} m [] more v mid end one two = subst (λ (x : V). IsReplay m x 
 replay-append m (a ∷ calls) more v mid end one two = (one.0, replay-append m calls more (m.after v a.request a.room) mid end one.1 two)
 
 module _ {V : Type 0} (m : Meaning V) (w : World V) where
-  abbrev SameService : Held V → Type 0
-  SameService h = h.service ≡ w.held.service
+  abbrev SameService : Shared V → Type 0
+  SameService h = h.service ≡ w.shared.service
 
-  replay-take : (queues : List ℕ) → SameService (after_take w.held queues).held
+  replay-take : (queues : List ℕ) → SameService (after_take w.shared queues).shared
   replay-take [] = refl
   replay-take (q ∷ rest) =
-      take-leaf w.held (λ (local : Local V). SameService local.held) q rest
-      (λ c is. refl) (λ is. none-leaf w.held SameService q (λ live. refl) (λ dead. refl)) (λ d is. refl)
+      take-leaf w.shared (λ (local : Local V). SameService local.shared) q rest
+      (λ c is. refl) (λ is. none-leaf w.shared SameService q (λ live. refl) (λ dead. refl)) (λ d is. refl)
 
-  called-service : (held : Held V) (call : Option ℕ) (wanted : Bool) → (called held call wanted).service ≡ held.service
-  called-service held call false = refl
-  called-service held None true = refl
-  called-service held (Some object) true = refl
+  called-service : (shared : Shared V) (call : Option ℕ) (wanted : Bool) → (called shared call wanted).service ≡ shared.service
+  called-service shared call false = refl
+  called-service shared None true = refl
+  called-service shared (Some object) true = refl
 
-  replay-put : (e : Entry) (reply queues : List ℕ) → SameService (after_put w.held e reply queues).held
+  replay-put : (e : Entry) (reply queues : List ℕ) → SameService (after_put w.shared e reply queues).shared
   replay-put e reply queues =
-      said-cases (put_said w.held e reply) (λ said. SameService (after_said w.held e reply queues said).held)
-      (λ wanted is. called-service (used w.held e reply) (ring_at w.held e.queue).call wanted) (λ fault is. refl)
+      said-cases (put_said w.shared e reply) (λ said. SameService (after_said w.shared e reply queues said).shared)
+      (λ wanted is. called-service (used w.shared e reply) (ring_at w.shared e.queue).call wanted) (λ fault is. refl)
 
-  replay-inside : (k : ℕ) (phase : Phase) (l : Play) → MayWork w.wiring k w.held phase l → IsReplay m w.held.service (asked_by m w.held.service phase l) (after_work m w.wiring k w.held phase l).held.service
+  replay-inside : (k : ℕ) (phase : Phase) (l : Play) → MayWork w.wiring k w.shared phase l → IsReplay m w.shared.service (asked_by m w.shared.service phase l) (after_work m w.wiring k w.shared phase l).shared.service
   replay-inside k =
-      work-cases w.wiring k w.held (λ phase l. IsReplay m w.held.service (asked_by m w.held.service phase l) (after_work m w.wiring k w.held phase l).held.service)
+      work-cases w.wiring k w.shared (λ phase l. IsReplay m w.shared.service (asked_by m w.shared.service phase l) (after_work m w.wiring k w.shared phase l).shared.service)
       (λ object ready. refl)
-      (λ object token. event-held w.wiring k w.held SameService object token refl (λ o. refl))
+      (λ object token. event-shared w.wiring k w.shared SameService object token refl (λ o. refl))
       refl
       (λ token said. refl)
       replay-take
       (λ e queues. (refl, refl))
       replay-put
 
-  replay-guest : (actions : List Guest) → SameService (after_guest w actions).held
+  replay-guest : (actions : List Guest) → SameService (after_guest w actions).shared
   replay-guest [] = refl
   replay-guest (Store object offset bytes ∷ actions) = refl
   replay-guest (Signal object ∷ actions) = refl
 
-  replay-step : (p : Party) (l : Play) → May w p l → IsReplay m w.held.service (asked_at m w p l) (after m w p l).held.service
+  replay-step : (p : Party) (l : Play) → May w p l → IsReplay m w.shared.service (asked_at m w p l) (after m w p l).shared.service
   replay-step party.Guest play.Guest may = replay-guest w.guest
   replay-step (party.Worker k) l may =
-      subst (λ c. IsReplay m w.held.service c (after_work m w.wiring k w.held (phase_at w.phases k) l).held.service) (sym (asked-same m w k l)) (replay-inside k (phase_at w.phases k) l may)
-  replay-step party.Control (play.Control s said) may = service-small w.wiring w.held s
+      subst (λ c. IsReplay m w.shared.service c (after_work m w.wiring k w.shared (phase_at w.phases k) l).shared.service) (sym (asked-same m w k l)) (replay-inside k (phase_at w.phases k) l may)
+  replay-step party.Control (play.Control s said) may = service-small w.wiring w.shared s
   replay-step p l may = absurd may
 
-pub replay-run : {V : Type 0} (m : Meaning V) (turns : List ℕ) (labels : List Play) (w z : World V) → IsRun m turns labels w z → IsReplay m w.held.service (asked m turns labels w) z.held.service
-replay-run {V} m [] [] w z run = ap (λ (x : World V). x.held.service) run
+pub replay-run : {V : Type 0} (m : Meaning V) (turns : List ℕ) (labels : List Play) (w z : World V) → IsRun m turns labels w z → IsReplay m w.shared.service (asked m turns labels w) z.shared.service
+replay-run {V} m [] [] w z run = ap (λ (x : World V). x.shared.service) run
 replay-run m [] (l ∷ labels) w z run = absurd run
 replay-run m (turn ∷ turns) [] w z run = absurd run
 replay-run {V} m (turn ∷ turns) (l ∷ labels) w z run =
     let p = party_of turn in
     let is = turn-next m w p l run.0 run.1 in
     let rest = replay-run m turns labels run.0 z run.2 in
-    let first : IsReplay m w.held.service (asked_at m w p l) run.0.held.service =
-    turn-cases m w p run.0 (λ l. IsReplay m w.held.service (asked_at m w p l) run.0.held.service)
-    (λ same. subst (λ c. IsReplay m w.held.service c run.0.held.service) (sym (asked-pass m w p)) (ap (λ (x : World V). x.held.service) same))
-    (λ l may is. subst (λ (x : World V). IsReplay m w.held.service (asked_at m w p l) x.held.service) (sym is) (replay-step m w p l may))
+    let first : IsReplay m w.shared.service (asked_at m w p l) run.0.shared.service =
+    turn-cases m w p run.0 (λ l. IsReplay m w.shared.service (asked_at m w p l) run.0.shared.service)
+    (λ same. subst (λ c. IsReplay m w.shared.service c run.0.shared.service) (sym (asked-pass m w p)) (ap (λ (x : World V). x.shared.service) same))
+    (λ l may is. subst (λ (x : World V). IsReplay m w.shared.service (asked_at m w p l) x.shared.service) (sym is) (replay-step m w p l may))
     l run.1 in
-    replay-append m (asked_at m w p l) (asked m turns labels (next m w p l)) w.held.service run.0.held.service z.held.service first (subst (λ (x : World V). IsReplay m run.0.held.service (asked m turns labels x) z.held.service) is rest)
+    replay-append m (asked_at m w p l) (asked m turns labels (next m w p l)) w.shared.service run.0.shared.service z.shared.service first (subst (λ (x : World V). IsReplay m run.0.shared.service (asked m turns labels x) z.shared.service) is rest)

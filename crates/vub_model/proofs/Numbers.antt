@@ -16,13 +16,13 @@ use Rattle.vub_model.specs.declared.ring_op.RingOp.TheVariants as op
 use Rattle.vub_model.specs.declared.setup.Guest.{Guest}
 use Rattle.vub_model.specs.declared.setup.Guest.TheVariants.{Store, Signal}
 use Rattle.vub_model.specs.RingRecord.{Vring, closed_ring, changed, ring_after}
-use Rattle.vub_model.specs.Held.{Held, ring_at}
+use Rattle.vub_model.specs.Shared.{Shared, ring_at}
 use Rattle.vub_model.specs.Service.{Meaning}
 use Rattle.vub_model.specs.Wiring.{Wiring}
 use Rattle.vub_model.specs.Work.{Local, MayWork, after_work, after_take, after_took, after_put, after_said, called, used, entry_of, looked, put_said}
 use Rattle.vub_model.specs.World.{World, May, after, after_guest, phase_at, take_of, takes_by, after_control}
 use Rattle.vub_model.specs.Headline.{takes_of, numbers, count_up, NumberAt, RingNumbered, Numbered, IsFresh}
-use Rattle.vub_model.proofs.Cases.{work-cases, event-held, take-leaf, none-leaf, said-cases}
+use Rattle.vub_model.proofs.Cases.{work-cases, event-shared, take-leaf, none-leaf, said-cases}
 use Rattle.vub_model.proofs.Live.{looked-live, live-parts, live-taken, serving-takes}
 use Rattle.vub_model.proofs.Flow.{field-kept}
 use Rattle.vub_model.proofs.FlowSteps.{pushed, left_out, on-within}
@@ -63,12 +63,12 @@ same-numbers rings p r q takes epoch base taken at =
 abbrev pub AllNumbered : List Vring → List Take → Type 0
 AllNumbered rings takes = (q : ℕ) → RingNumbered (slice_index_or rings q closed_ring) (takes_of q takes)
 
-module _ {V : Type 0} (g : Wiring) (h : Held V) (takes : List Take) (numbered : AllNumbered h.rings takes) where
+module _ {V : Type 0} (g : Wiring) (h : Shared V) (takes : List Take) (numbered : AllNumbered h.rings takes) where
   -- what the takes are after a step that ends so
   abbrev pub After : Play → Local V → Type 0
-  After l local = AllNumbered local.held.rings (takes ++ takes_by l local.phase)
+  After l local = AllNumbered local.shared.rings (takes ++ takes_by l local.phase)
 
-  still : (l : Play) (local : Local V) → takes_by l local.phase ≡ [] → local.held.rings ≡ h.rings → After l local
+  still : (l : Play) (local : Local V) → takes_by l local.phase ≡ [] → local.shared.rings ≡ h.rings → After l local
   still l local none rings q = rw (rings, none, append-nil takes) (numbered q)
 
   number-entry : (p : ℕ) (rest : List ℕ) (c : Chain) → looked h p ≡ took.Entry c → After play.Take (after_took h p rest (took.Entry c))
@@ -93,10 +93,10 @@ module _ {V : Type 0} (g : Wiring) (h : Held V) (takes : List Take) (numbered : 
       (λ is. still play.Take (after_took h p rest took.None) (serving-takes rest) (none-leaf h (λ x. x.rings ≡ h.rings) p (λ live. refl) (λ dead. refl)))
       (λ d is. still play.Take (after_took h p rest (took.Damaged d)) refl refl)
 
-  called-rings : (held : Held V) (call : Option ℕ) (wanted : Bool) → (called held call wanted).rings ≡ held.rings
-  called-rings held call false = refl
-  called-rings held None true = refl
-  called-rings held (Some object) true = refl
+  called-rings : (shared : Shared V) (call : Option ℕ) (wanted : Bool) → (called shared call wanted).rings ≡ shared.rings
+  called-rings shared call false = refl
+  called-rings shared None true = refl
+  called-rings shared (Some object) true = refl
 
   number-put : (e : Entry) (reply queues : List ℕ) → After play.Put (after_put h e reply queues)
   number-put e reply queues =
@@ -108,7 +108,7 @@ module _ {V : Type 0} (g : Wiring) (h : Held V) (takes : List Take) (numbered : 
   number-work m k =
       work-cases g k h (λ phase l. After l (after_work m g k h phase l))
       (λ object ready. still (play.Poll object) (after_work m g k h Idle (play.Poll object)) refl refl)
-      (λ object token. still play.Event (after_work m g k h (Polled object token) play.Event) refl (event-held g k h (λ x. x.rings ≡ h.rings) object token refl (λ o. refl)))
+      (λ object token. still play.Event (after_work m g k h (Polled object token) play.Event) refl (event-shared g k h (λ x. x.rings ≡ h.rings) object token refl (λ o. refl)))
       (still play.Sweep (after_work m g k h Sweep play.Sweep) refl refl)
       (λ token said. still (play.Hear said) (after_work m g k h (Heard token) (play.Hear said)) refl refl)
       number-take-step
@@ -123,10 +123,10 @@ module _ {V : Type 0} (m : Meaning V) (w : World V) (numbered : Numbered w) wher
   number-guest (Store object offset bytes ∷ actions) = numbered
   number-guest (Signal object ∷ actions) = numbered
 
-  module _ (control : (s : Small) (said : DeviceSaid) → MayControl w.held w.control.plan.steps s said → Numbered (after_control w s said)) where
+  module _ (control : (s : Small) (said : DeviceSaid) → MayControl w.shared w.control.plan.steps s said → Numbered (after_control w s said)) where
    pub number-step : (p : Party) (l : Play) → May w p l → Numbered (after m w p l)
    number-step party.Guest play.Guest may = number-guest w.guest
-   number-step (party.Worker k) l may = number-work w.wiring w.held w.takes numbered m k (phase_at w.phases k) l may
+   number-step (party.Worker k) l may = number-work w.wiring w.shared w.takes numbered m k (phase_at w.phases k) l may
    number-step party.Control (play.Control s said) may = control s said may
    number-step p l may = absurd may
 

@@ -13,7 +13,7 @@ use Rattle.vub_model.specs.declared.party.Party.{Party}
 use Rattle.vub_model.specs.declared.party.Party.TheVariants as party
 use Rattle.vub_model.specs.declared.phase.Phase.{Phase}
 use Rattle.vub_model.specs.declared.phase.Phase.TheVariants.{Idle, Polled, Sweep, Heard, Serving, Taken, Served}
-use Rattle.vub_model.specs.Held.{Held, is_ready}
+use Rattle.vub_model.specs.Shared.{Shared, is_ready}
 use Rattle.vub_model.specs.Wiring.{Wiring, opened_at}
 use Rattle.vub_model.specs.Work.{MayWork}
 use Rattle.vub_model.specs.Service.{Meaning}
@@ -37,7 +37,7 @@ least-reported (r ∷ rest) least object all any = by (r.object == object) refl 
     by true is later any = let first : least ≤ r.object = all r (0, omega arith, refl) in let same : r.object ≡ object = eqb-true r.object object is in omega arith
     by false is later any = later any
 
-module _ {V D : Type 0} (t : Telling D) (d : D) (g : Wiring) (k : ℕ) (h : Held V) where
+module _ {V D : Type 0} (t : Telling D) (d : D) (g : Wiring) (k : ℕ) (h : Shared V) where
   -- of two polls that take the least member both take the same
   one-poll : (object other : ℕ) → is_ready h.table (opened_at g k).list object ≡ true → IsLeastPoll g k h (play.Poll object) → is_ready h.table (opened_at g k).list other ≡ true → IsLeastPoll g k h (play.Poll other) → object ≡ other
   one-poll object other ready least other-ready other-least =
@@ -109,7 +109,7 @@ module _ {V D : Type 0} (t : Telling D) (d : D) (w : World V) where
   one-said Answering said other may other-may told other-told = may ∙ sym other-may
 
   -- control has one step
-  one-small : (steps : List Small) (s other : Small) (said other-said : DeviceSaid) → MayControl w.held steps s said → MayControl w.held steps other other-said → Tells t d (call_at w party.Control (play.Control s said)) → Tells t d (call_at w party.Control (play.Control other other-said)) → play.Control s said ≡ play.Control other other-said
+  one-small : (steps : List Small) (s other : Small) (said other-said : DeviceSaid) → MayControl w.shared steps s said → MayControl w.shared steps other other-said → Tells t d (call_at w party.Control (play.Control s said)) → Tells t d (call_at w party.Control (play.Control other other-said)) → play.Control s said ≡ play.Control other other-said
   one-small [] s other said other-said may other-may told other-told = absurd may
   one-small (x ∷ rest) s other said other-said may other-may told other-told =
       let P : Small → Type 0 = λ s. Tells t d (call_at w party.Control (play.Control s said)) in
@@ -125,7 +125,7 @@ module _ {V D : Type 0} (t : Telling D) (d : D) (w : World V) where
   one-step party.Control (play.Control s said) (play.Control other other-said) may least told other-may other-least other-told = one-small w.control.plan.steps s other said other-said may other-may told other-told
   one-step party.Control (play.Control s said) other may least told other-may other-least other-told = absurd other-may
   one-step party.Control l other may least told other-may other-least other-told = absurd may
-  one-step (party.Worker k) l other may least told other-may other-least other-told = one-work t d w.wiring k w.held (phase_at w.phases k) l may least told other other-may other-least other-told
+  one-step (party.Worker k) l other may least told other-may other-least other-told = one-work t d w.wiring k w.shared (phase_at w.phases k) l may least told other other-may other-least other-told
 
   -- two turns of a party play the same label: it passes only where it has no step
   one-turn : (m : Meaning V) (p : Party) (l other : Play) (mid other-mid : World V) → Turn m w p l mid → IsLeast w p l → Tells t d (call_at w p l) → Turn m w p other other-mid → IsLeast w p other → Tells t d (call_at w p other) → l ≡ other

@@ -26,7 +26,7 @@ use Rattle.vub_model.specs.declared.wiring.Opened.{Opened}
 use Rattle.vub_model.specs.declared.wiring.Place.{Place}
 use Rattle.vub_model.specs.RingRecord.{Vring, closed_ring, is_on}
 use Rattle.vub_model.specs.Frame.{Frame, claim_of, frame_of, known_of, is_there}
-use Rattle.vub_model.specs.Held.{Held, ring_at, count_at, pending_at, has_number, inserted, raised}
+use Rattle.vub_model.specs.Shared.{Shared, ring_at, count_at, pending_at, has_number, inserted, raised}
 use Rattle.vub_model.specs.Wiring.{Wiring, opened_at, no_worker, place_of, IsPlaced}
 use Rattle.vub_model.specs.World.{phase_at}
 use Rattle.vub_model.specs.Work.{is_object}
@@ -348,8 +348,8 @@ module _ (constants : Constants) (objects : List Object) (given : List GivenRing
 
   -- The registration of a ring
 
-  module _ {V : Type 0} (done : List GivenRing) (h : Held V) (s : Stage g count workers constants.exits rings done done h) (r : GivenRing) (among : Among given r) (sound : IsSound constants objects done r) where
-    abbrev Next : Held V → Type 0
+  module _ {V : Type 0} (done : List GivenRing) (h : Shared V) (s : Stage g count workers constants.exits rings done done h) (r : GivenRing) (among : Among given r) (sound : IsSound constants objects done r) where
+    abbrev Next : Shared V → Type 0
     Next z = Stage g count workers constants.exits rings (done ++ r ∷ []) (done ++ r ∷ []) z
 
     join-place : (o : ℕ) → r.kick ≡ Some o → r.ready && r.enabled ≡ true → Stage g count workers constants.exits rings (done ++ r ∷ []) done (claimed h o r.queue) → (place : Option Place) → place_of g r.queue ≡ place → Next (placed g (claimed h o r.queue) o place)
@@ -362,7 +362,7 @@ module _ (constants : Constants) (objects : List Object) (given : List GivenRing
         subst P (sym (opened-is p.worker low))
         (join-kick g count workers constants.exits rings (done ++ r ∷ []) done (claimed h o r.queue) t r o kick p.worker p.number low here (ap (λ (x : Vring). x.kick) ring ∙ kick) (ap is_on ring ∙ on))
 
-    join-on : (o : ℕ) → r.kick ≡ Some o → Stage g count workers constants.exits rings (done ++ r ∷ []) done (claimed h o r.queue) → (b : Bool) → r.ready && r.enabled ≡ b → Next (cond {A = Held V} b (placed g (claimed h o r.queue) o (place_of g r.queue)) (claimed h o r.queue))
+    join-on : (o : ℕ) → r.kick ≡ Some o → Stage g count workers constants.exits rings (done ++ r ∷ []) done (claimed h o r.queue) → (b : Bool) → r.ready && r.enabled ≡ b → Next (cond {A = Shared V} b (placed g (claimed h o r.queue) o (place_of g r.queue)) (claimed h o r.queue))
     join-on o kick t true on = join-place o kick on t (place_of g r.queue) refl
     join-on o kick t false off = join-none g count workers constants.exits rings (done ++ r ∷ []) done (claimed h o r.queue) t r (λ x k n its on place. let e = sym off ∙ on in absurd cc)
 
@@ -373,7 +373,7 @@ module _ (constants : Constants) (objects : List Object) (given : List GivenRing
         let below = object-below objects o (ap (is_event_or_none objects) (sym is) ∙ sound.event) in
         join-on o is (claim-kick g count workers constants.exits rings done done h s r o is below free.0 free.1) (r.ready && r.enabled) refl
 
-  register-all : {V : Type 0} (done rest : List GivenRing) (h : Held V) → ring_fault constants objects done rest ≡ None → ((r : GivenRing) → Among rest r → Among given r) → Stage g count workers constants.exits rings done done h
+  register-all : {V : Type 0} (done rest : List GivenRing) (h : Shared V) → ring_fault constants objects done rest ≡ None → ((r : GivenRing) → Among rest r → Among given r) → Stage g count workers constants.exits rings done done h
       → Stage g count workers constants.exits rings (done ++ rest) (done ++ rest) (fold (λ h r. registered g h r) h rest)
   register-all {V} done [] h sound all s = let P : List GivenRing → Type 0 = λ l. Stage g count workers constants.exits rings l l h in subst P (sym (append-nil done)) s
   register-all {V} done (r ∷ rest) h sound all s =
@@ -384,7 +384,7 @@ module _ (constants : Constants) (objects : List Object) (given : List GivenRing
 
   -- What the registration of all rings leaves
 
-  module _ {V : Type 0} (h : Held V) (s : Stage g count workers constants.exits rings given given h) where
+  module _ {V : Type 0} (h : Shared V) (s : Stage g count workers constants.exits rings given given h) where
     abbrev f : Frame
     f = frame_of h
 
@@ -482,25 +482,25 @@ module _ (constants : Constants) (objects : List Object) (given : List GivenRing
 
 -- its rings are the given ones, and the others new
 registered-all : {V : Type 0} (constants : Constants) (setup : Setup) (v : V) → IsValid constants setup
-    → Stage (wiring_of constants (length setup.objects)) (length setup.objects) (length constants.masks) constants.exits (opening_rings constants setup.rings) setup.rings setup.rings (opening constants setup v).held
+    → Stage (wiring_of constants (length setup.objects)) (length setup.objects) (length constants.masks) constants.exits (opening_rings constants setup.rings) setup.rings setup.rings (opening constants setup v).shared
 unfolding opening
 registered-all constants setup v is_valid =
     let valid = rings-sound constants setup is_valid in
     register-all constants setup.objects setup.rings valid [] setup.rings (before_rings constants setup v) valid (λ r among. among) (first-stage constants setup.objects setup.rings valid setup.regions setup.requests setup.guest v)
 
-pub opening-untaken : {V : Type 0} (constants : Constants) (setup : Setup) (v : V) → IsValid constants setup → (q : ℕ) → (ring_at (opening constants setup v).held q).taken ≡ 0
+pub opening-untaken : {V : Type 0} (constants : Constants) (setup : Setup) (v : V) → IsValid constants setup → (q : ℕ) → (ring_at (opening constants setup v).shared q).taken ≡ 0
 opening-untaken constants setup v is_valid q =
     let valid = rings-sound constants setup is_valid in
-    ap (λ (x : Vring). x.taken) (ring-here constants setup.objects setup.rings valid (opening constants setup v).held (registered-all constants setup v is_valid) q) ∙ (none-taken constants setup.objects setup.rings valid q).1
+    ap (λ (x : Vring). x.taken) (ring-here constants setup.objects setup.rings valid (opening constants setup v).shared (registered-all constants setup v is_valid) q) ∙ (none-taken constants setup.objects setup.rings valid q).1
 
 -- the requests of a valid set-up fit its opening
-requests-fit : {V : Type 0} (constants : Constants) (setup : Setup) (v : V) → IsValid constants setup → AllByRecursion (RequestFits (wiring_of constants (length setup.objects)) (frame_of (opening constants setup v).held).events) setup.requests
+requests-fit : {V : Type 0} (constants : Constants) (setup : Setup) (v : V) → IsValid constants setup → AllByRecursion (RequestFits (wiring_of constants (length setup.objects)) (frame_of (opening constants setup v).shared).events) setup.requests
 unfolding is_answerable request_fault
 requests-fit {V} constants setup v is_valid = all 0 setup.requests (requests-sound constants setup is_valid) where
   g : Wiring
   g = wiring_of constants (length setup.objects)
 
-  s : Stage (wiring_of constants (length setup.objects)) (length setup.objects) (length constants.masks) constants.exits (opening_rings constants setup.rings) setup.rings setup.rings (opening constants setup v).held
+  s : Stage (wiring_of constants (length setup.objects)) (length setup.objects) (length constants.masks) constants.exits (opening_rings constants setup.rings) setup.rings setup.rings (opening constants setup v).shared
   s = registered-all constants setup v is_valid
 
   no-bell : (o : ℕ) → is_event setup.objects o ≡ true → NoBell (wiring_of constants (length setup.objects)) o
@@ -510,19 +510,19 @@ requests-fit {V} constants setup v is_valid = all 0 setup.requests (requests-sou
       let bell : (opened_at (wiring_of constants (length setup.objects)) k).bell ≡ length setup.objects + k = ap (λ (x : Opened). x.bell) (opened-is constants setup.objects setup.rings valid k (let size = opened-size constants setup.objects setup.rings valid in omega (arith, below, size))) in
       absurd (omega (arith, low, bell, same))
 
-  there : (o : ℕ) → is_event setup.objects o ≡ true → slice_index_or (frame_of (opening constants setup v).held).events o false ≡ true
+  there : (o : ℕ) → is_event setup.objects o ≡ true → slice_index_or (frame_of (opening constants setup v).shared).events o false ≡ true
   there o is =
       let low = object-below setup.objects o is in
       let long = s.objects in
-      mapped-at (λ (e : Option Event). is_some e) (opening constants setup v).held.table.objects o None false (omega (arith, low, long)) ∙ s.some o (omega (arith, low))
+      mapped-at (λ (e : Option Event). is_some e) (opening constants setup v).shared.table.objects o None false (omega (arith, low, long)) ∙ s.some o (omega (arith, low))
 
-  one : (r : Request) → is_answerable constants setup.objects r ≡ true → RequestFits (wiring_of constants (length setup.objects)) (frame_of (opening constants setup v).held).events r
+  one : (r : Request) → is_answerable constants setup.objects r ≡ true → RequestFits (wiring_of constants (length setup.objects)) (frame_of (opening constants setup v).shared).events r
   one (request.SetVringKick queue (Some o)) is = (there o is, no-bell o is)
   one (request.RegisterListener worker o set token) is = no-bell o (and_parts (is_event setup.objects o) (nat_lt worker (length constants.masks)) is).0
   one (request.SetVringKick queue None) is = tt
   one r is = tt
 
-  all : (i : ℕ) (requests : List Request) → request_fault constants setup.objects i requests ≡ None → AllByRecursion (RequestFits (wiring_of constants (length setup.objects)) (frame_of (opening constants setup v).held).events) requests
+  all : (i : ℕ) (requests : List Request) → request_fault constants setup.objects i requests ≡ None → AllByRecursion (RequestFits (wiring_of constants (length setup.objects)) (frame_of (opening constants setup v).shared).events) requests
   all i [] is = tt
   all i (r ∷ requests) is =
       let parts = cond-none (is_answerable constants setup.objects r) (request_fault constants setup.objects (i + 1) requests) (setup_fault.Request i) is in
@@ -536,7 +536,7 @@ opening-meets {V} constants setup v is_valid =
     let objects = setup.objects in
     let given = setup.rings in
     let g = wiring_of constants (length objects) in
-    let h : Held V = fold (λ h r. registered g h r) (before_rings constants setup v) given in
+    let h : Shared V = fold (λ h r. registered g h r) (before_rings constants setup v) given in
     let s = registered-all constants setup v is_valid in
     let size = opened-size constants objects given valid in
     record {

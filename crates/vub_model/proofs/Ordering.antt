@@ -16,7 +16,7 @@ use Rattle.vub_model.specs.declared.setup.Guest.{Guest}
 use Rattle.vub_model.specs.declared.small.Small.{Small}
 use Rattle.vub_model.specs.declared.small.Small.TheVariants.{Claim, Release, Add, Delete, Listen, Unlisten, Bell, Remove, Insert, Set, Info, Table, Log, Device, Answer as Answering}
 use Rattle.vub_model.specs.Frame.{Frame, frame_of}
-use Rattle.vub_model.specs.Held.{Held}
+use Rattle.vub_model.specs.Shared.{Shared}
 use Rattle.vub_model.specs.Wiring.{Wiring, opened_at}
 use Rattle.vub_model.specs.Plans.{Plan}
 use Rattle.vub_model.specs.Control.{Control, instead, told, drop_two, tail_of, after_refusal, can_claim, can_add, can_listen, can_unlisten, used_index_covers, table_refusal, rest_after, begun_from, played, small_after, MayControl}
@@ -30,7 +30,7 @@ one-of : (b : Bool) (p q : Plan) → (cond b p q ≡ p) ⊎ (cond b p q ≡ q)
 one-of true p q = inl refl
 one-of false p q = inr refl
 
-may-leave : {V : Type 0} (g : Wiring) (h : Held V) (s : Small) (said : DeviceSaid) (p : Plan) → MayLeave s p (rest_after g h s said p)
+may-leave : {V : Type 0} (g : Wiring) (h : Shared V) (s : Small) (said : DeviceSaid) (p : Plan) → MayLeave s p (rest_after g h s said p)
 may-leave g h (Claim o q) said p = one-of (can_claim h.table o q) p (instead (answer.Failed error.InvalidParam) p)
 may-leave g h (Listen k o n) said p = one-of (can_listen h.table (opened_at g k).list o) p (instead (answer.Listener listener_error.AlreadyExists) p)
 may-leave g h (Unlisten k o a) said p = one-of (can_unlisten h.table (opened_at g k).list o a) p (instead (answer.Listener listener_error.NotFound) p)
@@ -79,14 +79,14 @@ module _ {V : Type 0} (m : Meaning V) (w : World V) (labels : List Small) where
   guest-order [] order = order
   guest-order (a ∷ actions) order = order
 
-  control-order : (s : Small) (said : DeviceSaid) (steps : List Small) → w.control.plan.steps ≡ steps → MayControl w.held steps s said → Ordered (after_control w s said) labels → Ordered w (s ∷ labels)
+  control-order : (s : Small) (said : DeviceSaid) (steps : List Small) → w.control.plan.steps ≡ steps → MayControl w.shared steps s said → Ordered (after_control w s said) labels → Ordered w (s ∷ labels)
   control-order s said [] is may order = absurd may
   control-order s said (t ∷ rest) is may order =
       let left : Plan = record w.control.plan { steps = tail_of w.control.plan.steps } in
       let head : w.control.plan ≡ record left { steps = s ∷ left.steps } =
           ap (λ steps. record w.control.plan { steps = steps }) (is ∙ (ap (λ x. x ∷ rest) (sym may.0) ∙ ap (λ l. s ∷ l) (sym (ap tail_of is)))) in
-      let c = played w.wiring w.held w.control s said in
-      one-more w.wiring (frame_of (small_after w.wiring w.held s)) (small_after w.wiring w.held s).guest.regions c s left w.control.plan c.plan.steps w.control.requests labels refl refl head (may-leave w.wiring w.held s said left) order
+      let c = played w.wiring w.shared w.control s said in
+      one-more w.wiring (frame_of (small_after w.wiring w.shared s)) (small_after w.wiring w.shared s).guest.regions c s left w.control.plan c.plan.steps w.control.requests labels refl refl head (may-leave w.wiring w.shared s said left) order
 
   step-order : (p : Party) (l : Play) → May w p l → Ordered (after m w p l) labels → Ordered w (control_of p l ++ labels)
   step-order party.Guest play.Guest may order = guest-order w.guest order

@@ -19,7 +19,7 @@ use Rattle.vub_model.specs.declared.wiring.Known.{Known}
 use Rattle.vub_model.specs.RingRecord.{Vring, closed_ring, needs_no_flight, is_in_flight}
 use Rattle.vub_model.specs.EntryNumber.{has_left}
 use Rattle.vub_model.specs.Frame.{Frame, frame_of}
-use Rattle.vub_model.specs.Held.{Held, ring_at, count_at, count_of, pending_at, has_number}
+use Rattle.vub_model.specs.Shared.{Shared, ring_at, count_at, count_of, pending_at, has_number}
 use Rattle.vub_model.specs.Wiring.{Wiring, opened_at, IsPlaced}
 use Rattle.vub_model.specs.Work.{MayWork}
 use Rattle.vub_model.specs.World.{World, phase_at}
@@ -63,7 +63,7 @@ ready-member g f k o objects (m ∷ ms) own h above = by (eqb m.object o) refl (
   by false is more h = report-later (report_of m (slice_index_or objects m.object None)) o (reports_of objects ms) (more h)
 
 -- a worker that has no step and has not stopped is idle
-idle-in : {V : Type 0} (g : Wiring) (k : ℕ) (h : Held V) (phase : Phase) → PhaseFits g k phase → ((l : Play) → MayWork g k h phase l → ⊥) → (HasStopped phase → ⊥) → phase ≡ Idle
+idle-in : {V : Type 0} (g : Wiring) (k : ℕ) (h : Shared V) (phase : Phase) → PhaseFits g k phase → ((l : Play) → MayWork g k h phase l → ⊥) → (HasStopped phase → ⊥) → phase ≡ Idle
 idle-in g k h Idle fits none goes = refl
 idle-in g k h (Polled object token) fits none goes = absurd (none play.Event tt)
 idle-in g k h Sweep fits none goes = absurd (none play.Sweep tt)
@@ -74,7 +74,7 @@ idle-in g k h (Served e reply queues) fits none goes = absurd (none play.Put tt)
 idle-in g k h (Stopped cause) fits none goes = absurd (goes tt)
 
 -- a worker with an entry in hand has a step
-hand-steps : {V : Type 0} (g : Wiring) (k : ℕ) (h : Held V) (phase : Phase) (q : ℕ) → HasInHand phase q → ((l : Play) → MayWork g k h phase l → ⊥) → ⊥
+hand-steps : {V : Type 0} (g : Wiring) (k : ℕ) (h : Shared V) (phase : Phase) (q : ℕ) → HasInHand phase q → ((l : Play) → MayWork g k h phase l → ⊥) → ⊥
 hand-steps g k h (Taken e queues) q hand none = none play.Serve tt
 hand-steps g k h (Served e reply queues) q hand none = none play.Put tt
 hand-steps g k h phase q hand none = absurd hand
@@ -130,71 +130,71 @@ in-flight flight.None is = absurd cc
 in-flight flight.Held is = absurd cc
 
 -- a step waits for an entry in flight alone
-waits-flight : {V : Type 0} (h : Held V) (s : Small) → waits_now h s ≡ true → (q : ℕ) × ((ring_at h q).flight ≡ flight.InFlight)
+waits-flight : {V : Type 0} (h : Shared V) (s : Small) → waits_now h s ≡ true → (q : ℕ) × ((ring_at h q).flight ≡ flight.InFlight)
 waits-flight h (Set queue o) waits = (queue, in-flight (ring_at h queue).flight (and_parts (needs_no_flight o) (is_in_flight (ring_at h queue).flight) waits).1)
 waits-flight h (Info queue desc avail used) waits = (queue, in-flight (ring_at h queue).flight waits)
 waits-flight h s waits = absurd cc
 
 module _ {V : Type 0} (w : World V) (calm : ℕ → Bool) (i : Invariant w calm) (rest : IsAtRest w) where
   is-idle : (k : ℕ) → (HasStopped (phase_at w.phases k) → ⊥) → phase_at w.phases k ≡ Idle
-  is-idle k goes = idle-in w.wiring k w.held (phase_at w.phases k) (i.phases k) (rest (party.Worker k)) goes
+  is-idle k goes = idle-in w.wiring k w.shared (phase_at w.phases k) (i.phases k) (rest (party.Worker k)) goes
 
   -- none of its members is above zero
-  no-event : (k o : ℕ) → k < length w.wiring.opened → (HasStopped (phase_at w.phases k) → ⊥) → is_member (list_at w.wiring (frame_of w.held) k) o ≡ true → 0 < count_at w.held.table o → ⊥
+  no-event : (k o : ℕ) → k < length w.wiring.opened → (HasStopped (phase_at w.phases k) → ⊥) → is_member (list_at w.wiring (frame_of w.shared) k) o ≡ true → 0 < count_at w.shared.table o → ⊥
   no-event k o below goes member above =
-      let P : Phase → Type 0 = λ p. MayWork w.wiring k w.held p (play.Poll o) → ⊥ in
+      let P : Phase → Type 0 = λ p. MayWork w.wiring k w.shared p (play.Poll o) → ⊥ in
       (subst P (is-idle k goes) (rest (party.Worker k) (play.Poll o)))
-      (ready-member w.wiring (frame_of w.held) k o w.held.table.objects (list_at w.wiring (frame_of w.held) k) (i.linked.members k below) member above)
+      (ready-member w.wiring (frame_of w.shared) k o w.shared.table.objects (list_at w.wiring (frame_of w.shared) k) (i.linked.members k below) member above)
 
-  no-rung : (k : ℕ) → k < length w.wiring.opened → (HasStopped (phase_at w.phases k) → ⊥) → Rung (count_at w.held.table (opened_at w.wiring k).bell) (phase_at w.phases k) → ⊥
+  no-rung : (k : ℕ) → k < length w.wiring.opened → (HasStopped (phase_at w.phases k) → ⊥) → Rung (count_at w.shared.table (opened_at w.wiring k).bell) (phase_at w.phases k) → ⊥
   no-rung k below goes (ringing above) = no-event k (opened_at w.wiring k).bell below goes (i.linked.bell k below) above
   no-rung k below goes (sweeping is) = let idle = is-idle k goes in absurd cc
 
   -- Control
 
   -- an entry in flight is in the hand of a worker, who has a step
-  no-flight : (q : ℕ) → (ring_at w.held q).flight ≡ flight.InFlight → ⊥
+  no-flight : (q : ℕ) → (ring_at w.shared q).flight ≡ flight.InFlight → ⊥
   no-flight q is =
       let its = i.flies q is in
-      hand-steps w.wiring its.0 w.held (phase_at w.phases its.0) q its.2 (rest (party.Worker its.0))
+      hand-steps w.wiring its.0 w.shared (phase_at w.phases its.0) q its.2 (rest (party.Worker its.0))
 
   no-plan : w.control.plan.steps ≡ []
   no-plan = by w.control.plan.steps refl where
     by : (steps : List Small) → w.control.plan.steps ≡ steps → steps ≡ []
     by [] is = refl
-    by (s ∷ steps) is = absurd (go (waits_now w.held s) refl) where
-      go : (b : Bool) → waits_now w.held s ≡ b → ⊥
-      go true waits = let its = waits-flight w.held s waits in no-flight its.0 its.1
+    by (s ∷ steps) is = absurd (go (waits_now w.shared s) refl) where
+      go : (b : Bool) → waits_now w.shared s ≡ b → ⊥
+      go true waits = let its = waits-flight w.shared s waits in no-flight its.0 its.1
       go false ready =
-          let P : List Small → Type 0 = λ steps. MayControl w.held steps s (some-outcome s) in
+          let P : List Small → Type 0 = λ steps. MayControl w.shared steps s (some-outcome s) in
           rest party.Control (play.Control s (some-outcome s)) (subst P (sym is) (refl, ready, may-say s))
 
   no-first : (s : Small) → First w.control.plan.steps s → ⊥
   no-first s first = let P : List Small → Type 0 = λ steps. First steps s in subst P no-plan first
 
-  no-ring : (k : ℕ) → k < length w.wiring.opened → (HasStopped (phase_at w.phases k) → ⊥) → Rung (count_at w.held.table (opened_at w.wiring k).bell) (phase_at w.phases k) ⊎ First w.control.plan.steps (Bell (opened_at w.wiring k).bell) → ⊥
+  no-ring : (k : ℕ) → k < length w.wiring.opened → (HasStopped (phase_at w.phases k) → ⊥) → Rung (count_at w.shared.table (opened_at w.wiring k).bell) (phase_at w.phases k) ⊎ First w.control.plan.steps (Bell (opened_at w.wiring k).bell) → ⊥
   no-ring k below goes (inl rung) = no-rung k below goes rung
   no-ring k below goes (inr first) = no-first (Bell (opened_at w.wiring k).bell) first
 
-  no-woken : (q k n o : ℕ) → k < length w.wiring.opened → (HasStopped (phase_at w.phases k) → ⊥) → is_member (list_at w.wiring (frame_of w.held) k) o ≡ true → Woken (count_at w.held.table o) (pending_at w.held k) (phase_at w.phases k) q n → ⊥
+  no-woken : (q k n o : ℕ) → k < length w.wiring.opened → (HasStopped (phase_at w.phases k) → ⊥) → is_member (list_at w.wiring (frame_of w.shared) k) o ≡ true → Woken (count_at w.shared.table o) (pending_at w.shared k) (phase_at w.phases k) q n → ⊥
   no-woken q k n o below goes member (signalled above) = no-event k o below goes member above
   no-woken q k n o below goes member (waiting has) = no-ring k below goes (i.rung k below goes (λ none. let e = ap (has_number n) none in absurd cc))
   no-woken q k n o below goes member (listed has) = let e = ap (λ p. has_number q (list_of p)) (is-idle k goes) in absurd cc
 
-  no-waking : (q k n o : ℕ) → k < length w.wiring.opened → (HasStopped (phase_at w.phases k) → ⊥) → is_member (list_at w.wiring (frame_of w.held) k) o ≡ true → Woken (count_at w.held.table o) (pending_at w.held k) (phase_at w.phases k) q n ⊎ IsHandled w.control.plan.steps k n o → ⊥
+  no-waking : (q k n o : ℕ) → k < length w.wiring.opened → (HasStopped (phase_at w.phases k) → ⊥) → is_member (list_at w.wiring (frame_of w.shared) k) o ≡ true → Woken (count_at w.shared.table o) (pending_at w.shared k) (phase_at w.phases k) q n ⊎ IsHandled w.control.plan.steps k n o → ⊥
   no-waking q k n o below goes member (inl woken) = no-woken q k n o below goes member woken
   no-waking q k n o below goes member (inr (inl inserts)) = no-first (Insert k n) inserts
   no-waking q k n o below goes member (inr (inr deletes)) = no-first (Delete k o) deletes
 
-  settled : Settled w.wiring (frame_of w.held)
-  settled = let P : List Small → Type 0 = λ steps. Safe w.wiring (frame_of w.held) w.control.plan.reply steps in subst P no-plan i.safe
+  settled : Settled w.wiring (frame_of w.shared)
+  settled = let P : List Small → Type 0 = λ steps. Safe w.wiring (frame_of w.shared) w.control.plan.reply steps in subst P no-plan i.safe
 
   -- a ring with a kick is one of the device's
-  has-ring : (q o : ℕ) → (ring_at w.held q).kick ≡ Some o → q < w.wiring.queues
+  has-ring : (q o : ℕ) → (ring_at w.shared q).kick ≡ Some o → q < w.wiring.queues
   has-ring q o kick =
-      elim (cases_lt q (length w.held.rings)) [
+      elim (cases_lt q (length w.shared.rings)) [
         | inl below ↦ omega (arith, below, i.rings_size)
-        | inr past ↦ absurd (let none = ap (λ (r : Vring). r.kick) (get_or_past w.held.rings q closed_ring past) in absurd cc)
+        | inr past ↦ absurd (let none = ap (λ (r : Vring). r.kick) (get_or_past w.shared.rings q closed_ring past) in absurd cc)
       ]
 
   has-worker : (k : ℕ) → (HasStopped (phase_at w.phases k) → ⊥) → k < length w.wiring.opened
@@ -211,9 +211,9 @@ module _ {V : Type 0} (w : World V) (calm : ℕ → Bool) (i : Invariant w calm)
       let o = runs.kick in
       let below = has-worker k runs.goes in
       let at : IsPlaced w.wiring q k n = record { there = has-ring q o runs.has_kick; place = runs.placed } in
-      let known = known-ring w.held q in
-      let member : is_member (list_at w.wiring (frame_of w.held) k) o ≡ true = settled q k n o below at (kick-ring w.held q ∙ runs.has_kick) ∙ (ap (λ (x : Known). x.ready && x.enabled) known ∙ runs.on) in
-      by k n o below runs.goes member (λ left. i.awake q k n o at runs.goes runs.has_kick member runs.on runs.addresses calms left) (has_left w.held.guest (ring_at w.held q)) refl where
-        by : (k n o : ℕ) → k < length w.wiring.opened → (HasStopped (phase_at w.phases k) → ⊥) → is_member (list_at w.wiring (frame_of w.held) k) o ≡ true → (has_left w.held.guest (ring_at w.held q) ≡ true → Woken (count_at w.held.table o) (pending_at w.held k) (phase_at w.phases k) q n ⊎ IsHandled w.control.plan.steps k n o) → (b : Bool) → has_left w.held.guest (ring_at w.held q) ≡ b → b ≡ false
+      let known = known-ring w.shared q in
+      let member : is_member (list_at w.wiring (frame_of w.shared) k) o ≡ true = settled q k n o below at (kick-ring w.shared q ∙ runs.has_kick) ∙ (ap (λ (x : Known). x.ready && x.enabled) known ∙ runs.on) in
+      by k n o below runs.goes member (λ left. i.awake q k n o at runs.goes runs.has_kick member runs.on runs.addresses calms left) (has_left w.shared.guest (ring_at w.shared q)) refl where
+        by : (k n o : ℕ) → k < length w.wiring.opened → (HasStopped (phase_at w.phases k) → ⊥) → is_member (list_at w.wiring (frame_of w.shared) k) o ≡ true → (has_left w.shared.guest (ring_at w.shared q) ≡ true → Woken (count_at w.shared.table o) (pending_at w.shared k) (phase_at w.phases k) q n ⊎ IsHandled w.control.plan.steps k n o) → (b : Bool) → has_left w.shared.guest (ring_at w.shared q) ≡ b → b ≡ false
         by k n o below goes member woke true left = absurd (no-waking q k n o below goes member (woke left))
         by k n o below goes member woke false left = refl

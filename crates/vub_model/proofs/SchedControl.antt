@@ -27,7 +27,7 @@ use Rattle.vub_model.specs.declared.small.Small.TheVariants.{Claim, Release, Add
 use Rattle.vub_model.specs.declared.wiring.Known.{Known}
 use Rattle.vub_model.specs.RingRecord.{Vring, closed_ring, is_in_flight, waits, fits, based, limit, changed, ring_after, is_on, has_addresses}
 use Rattle.vub_model.specs.EntryNumber.{has_left}
-use Rattle.vub_model.specs.Held.{Held, ring_at, with_ring, count_at, count_of, raised, raised_option, pending_at, has_number, with_number, without_number, inserted, removed}
+use Rattle.vub_model.specs.Shared.{Shared, ring_at, with_ring, count_at, count_of, raised, raised_option, pending_at, has_number, with_number, without_number, inserted, removed}
 use Rattle.vub_model.specs.Plans.{Plan, regions_after}
 use Rattle.vub_model.specs.Control.{Control, MayControl, small_after, waits_now, can_claim, can_add, can_listen, can_unlisten, next_used_at, rest_after, tail_of, played, begun_from, instead, told, drop_two, table_refusal, used_index_covers, regions_unless}
 use Rattle.vub_model.specs.Frame.{Frame, known_of, frame_of, claim_at, list_at, is_member}
@@ -55,7 +55,7 @@ count-claim t o x owner (Some e) is =
     sym (get_or-map count_of (slice_set t.objects o (Some (claimed_by owner e))) x None)
     ∙ (ap (λ l. slice_index_or l x 0) (map-set_same count_of t.objects o (Some (claimed_by owner e)) None (sym (ap count_of is))) ∙ get_or-map count_of t.objects x None)
 
-counts-kept : {V : Type 0} (g : Wiring) (h : Held V) (s : Small) (x : ℕ) → 0 < count_at h.table x → 0 < count_at (small_after g h s).table x
+counts-kept : {V : Type 0} (g : Wiring) (h : Shared V) (s : Small) (x : ℕ) → 0 < count_at h.table x → 0 < count_at (small_after g h s).table x
 unfolding claim_after release_after add_after delete_after
 counts-kept g h (Claim o q) x above = elim (can_claim h.table o q) as (λ b. 0 < count_at (cond b (with_change (claimed_by (Some q)) h.table o (event_at h.table o)) h.table) x) [ true ↦ (let e = count-claim h.table o x (Some q) (event_at h.table o) refl in omega (arith, above, e)) | false ↦ above ]
 counts-kept g h (Release o) x above = let e = count-claim h.table o x None (event_at h.table o) refl in omega (arith, above, e)
@@ -118,7 +118,7 @@ first-begun : (g : Wiring) (f : Frame) (rs : List _) (c : Control) (steps : List
 first-begun g f rs c [] requests t is first = absurd first
 first-begun g f rs c (s ∷ steps) requests t is first = let P : List Small → Type 0 = λ l. First l t in subst P (sym is) first
 
-names : {V : Type 0} (g : Wiring) (h : Held V) (reply : _) (s : Small) (rest : List Small) → Fits g (frame_of h) reply s rest → NamesEvent g h s
+names : {V : Type 0} (g : Wiring) (h : Shared V) (reply : _) (s : Small) (rest : List Small) → Fits g (frame_of h) reply s rest → NamesEvent g h s
 names g h reply (Claim o q) rest fits = fits.1
 names g h reply (Release o) rest fits = tt
 names g h reply (Add k o n) rest fits = tt
@@ -153,7 +153,7 @@ same-events g f (Device call) = refl
 same-events g f Answering = refl
 
 -- the plan that is left fits the frame after the step
-module _ {V : Type 0} (g : Wiring) (h : Held V) (said : DeviceSaid) (wired : Wired g (frame_of h)) (l : Linked g (frame_of h)) where
+module _ {V : Type 0} (g : Wiring) (h : Shared V) (said : DeviceSaid) (wired : Wired g (frame_of h)) (l : Linked g (frame_of h)) where
   abbrev f : Frame
   f = frame_of h
 
@@ -230,8 +230,8 @@ module _ {V : Type 0} (w : World V) (calm : ℕ → Bool) (i : Invariant w calm)
   abbrev g : Wiring
   g = w.wiring
 
-  abbrev h : Held V
-  h = w.held
+  abbrev h : Shared V
+  h = w.shared
 
   abbrev fr : Frame
   fr = frame_of h
@@ -241,7 +241,7 @@ module _ {V : Type 0} (w : World V) (calm : ℕ → Bool) (i : Invariant w calm)
 
   -- what is known of the step
   module _ (s : Small) (is : w.control.plan.steps ≡ s ∷ left.steps) (ready : waits_now h s ≡ false) where
-    abbrev z : Held V
+    abbrev z : Shared V
     z = small_after g h s
 
     abbrev after : World V
@@ -615,22 +615,22 @@ module _ {V : Type 0} (w : World V) (calm : ℕ → Bool) (i : Invariant w calm)
     ring-close : Invariant (after_control w s said) (calm_after w party.Control (play.Control s said) (after_control w s said) calm)
     ring-close =
         close s is ready
-        (ap (λ (x : Held V). length x.rings) written ∙ length-set h.rings p r)
-        (ap (λ (x : Held V). length x.pending) written)
-        (λ q. ap (λ (x : Held V). (ring_at x q).flight) written ∙ field-kept (λ (x : Vring). x.flight) h p r flown q)
-        (λ q has. ap (λ (x : Held V). has_addresses (ring_at x q)) written ∙ addressed q has)
-        (λ q flies on. ap (λ (x : Held V). (ring_at x q).queue.ready) written ∙ readies_on q flies on)
-        (λ k n has. inl (ap (λ (x : Held V). has_number n (pending_at x k)) (sym written) ∙ has))
-        (λ k below some old. quiet-rung s is ready k (λ e. no_bell (opened_at g k).bell e) (old (λ none. some (ap (λ (x : Held V). pending_at x k) written ∙ none))))
+        (ap (λ (x : Shared V). length x.rings) written ∙ length-set h.rings p r)
+        (ap (λ (x : Shared V). length x.pending) written)
+        (λ q. ap (λ (x : Shared V). (ring_at x q).flight) written ∙ field-kept (λ (x : Vring). x.flight) h p r flown q)
+        (λ q has. ap (λ (x : Shared V). has_addresses (ring_at x q)) written ∙ addressed q has)
+        (λ q flies on. ap (λ (x : Shared V). (ring_at x q).queue.ready) written ∙ readies_on q flies on)
+        (λ k n has. inl (ap (λ (x : Shared V). has_number n (pending_at x k)) (sym written) ∙ has))
+        (λ k below some old. quiet-rung s is ready k (λ e. no_bell (opened_at g k).bell e) (old (λ none. some (ap (λ (x : Shared V). pending_at x k) written ∙ none))))
         (λ q j m x at goes kick member on has calm_now left_one.
-          quiet-woken s is ready q j m x (no_insert j m) (no_delete j x) (λ h. ap (λ (x : Held V). has_number m (pending_at x j)) written ∙ h)
+          quiet-woken s is ready q j m x (no_insert j m) (no_delete j x) (λ h. ap (λ (x : Shared V). has_number m (pending_at x j)) written ∙ h)
           (kept q j m x goes at
-            (ap (λ (y : Held V). (ring_at y q).kick) (sym written) ∙ kick)
+            (ap (λ (y : Shared V). (ring_at y q).kick) (sym written) ∙ kick)
             (same-lists s is ready lists j x member)
-            (ap (λ (y : Held V). is_on (ring_at y q)) (sym written) ∙ on)
-            (ap (λ (y : Held V). has_addresses (ring_at y q)) (sym written) ∙ has)
+            (ap (λ (y : Shared V). is_on (ring_at y q)) (sym written) ∙ on)
+            (ap (λ (y : Shared V). has_addresses (ring_at y q)) (sym written) ∙ has)
             calm_now
-            (ap (λ (y : Held V). has_left y.guest (ring_at y q)) (sym written) ∙ left_one))) where
+            (ap (λ (y : Shared V). has_left y.guest (ring_at y q)) (sym written) ∙ left_one))) where
       readies_on : (q : ℕ) → (ring_at h q).flight ≡ flight.InFlight → (ring_at h q).queue.ready ≡ true → (ring_at (with_ring h p r) q).queue.ready ≡ true
       readies_on q flies on = elim (cases_eq q p) [
         | inl same ↦ (let P : ℕ → Type 0 = λ q. (ring_at h q).flight ≡ flight.InFlight → (ring_at h q).queue.ready ≡ true → (ring_at (with_ring h p r) q).queue.ready ≡ true in (subst P (sym same) (λ flies on. ap (λ (x : Vring). x.queue.ready) ring-here ∙ stays flies on)) flies on)
@@ -771,18 +771,18 @@ module _ {V : Type 0} (w : World V) (calm : ℕ → Bool) (i : Invariant w calm)
       let P : Small → Type 0 = λ s. Invariant (after_control w s said) (calm_after w party.Control (play.Control s said) (after_control w s said) calm) in
       subst P (sym may.0) (by-kind t head may.1)
 
-pub sched-control : {V : Type 0} (w : World V) (calm : ℕ → Bool) → Invariant w calm → (s : Small) (said : DeviceSaid) → MayControl w.held w.control.plan.steps s said → Invariant (after_control w s said) (calm_after w party.Control (play.Control s said) (after_control w s said) calm)
+pub sched-control : {V : Type 0} (w : World V) (calm : ℕ → Bool) → Invariant w calm → (s : Small) (said : DeviceSaid) → MayControl w.shared w.control.plan.steps s said → Invariant (after_control w s said) (calm_after w party.Control (play.Control s said) (after_control w s said) calm)
 sched-control w calm i s said may = by-may w calm i said w.control.plan.steps s refl may
 
 -- the plan's first step fits
-pub first-fits : {V : Type 0} (w : World V) (calm : ℕ → Bool) → Invariant w calm → (s : Small) (said : DeviceSaid) → MayControl w.held w.control.plan.steps s said → Fits w.wiring (frame_of w.held) w.control.plan.reply s (tail_of w.control.plan.steps)
+pub first-fits : {V : Type 0} (w : World V) (calm : ℕ → Bool) → Invariant w calm → (s : Small) (said : DeviceSaid) → MayControl w.shared w.control.plan.steps s said → Fits w.wiring (frame_of w.shared) w.control.plan.reply s (tail_of w.control.plan.steps)
 first-fits w calm i s said may = by w.control.plan.steps refl may where
-  by : (steps : List Small) → w.control.plan.steps ≡ steps → MayControl w.held steps s said → Fits w.wiring (frame_of w.held) w.control.plan.reply s (tail_of w.control.plan.steps)
+  by : (steps : List Small) → w.control.plan.steps ≡ steps → MayControl w.shared steps s said → Fits w.wiring (frame_of w.shared) w.control.plan.reply s (tail_of w.control.plan.steps)
   by [] is may = absurd may
   by (t ∷ rest) is may =
-      let P : List Small → Type 0 = λ l. Safe w.wiring (frame_of w.held) w.control.plan.reply l in
-      let S : Small → Type 0 = λ s. Fits w.wiring (frame_of w.held) w.control.plan.reply s rest in
-      let L : List Small → Type 0 = λ l. Fits w.wiring (frame_of w.held) w.control.plan.reply s l in
+      let P : List Small → Type 0 = λ l. Safe w.wiring (frame_of w.shared) w.control.plan.reply l in
+      let S : Small → Type 0 = λ s. Fits w.wiring (frame_of w.shared) w.control.plan.reply s rest in
+      let L : List Small → Type 0 = λ l. Fits w.wiring (frame_of w.shared) w.control.plan.reply s l in
       subst L (sym (ap tail_of is)) (subst S (sym may.0) (subst P is i.safe).0)
 
 -- a change of a ring takes no entry

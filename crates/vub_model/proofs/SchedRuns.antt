@@ -8,7 +8,7 @@ use Rattle.vub_model.specs.declared.party.Party.TheVariants as party
 use Rattle.vub_model.specs.declared.setup.Guest.{Guest}
 use Rattle.vub_model.specs.declared.setup.Guest.TheVariants.{Store, Signal}
 use Rattle.vub_model.specs.RingRecord.{limit, Vring, closed_ring, ring_after}
-use Rattle.vub_model.specs.Held.{ring_at, Held, with_ring}
+use Rattle.vub_model.specs.Shared.{ring_at, Shared, with_ring}
 use Rattle.vub_model.specs.Service.{Meaning}
 use Rattle.vub_model.specs.World.{World, May, after, after_guest, after_control}
 use Rattle.vub_model.specs.RunOf.{party_of, Turn, IsRun, IsAtRest}
@@ -29,10 +29,10 @@ use Rattle.vub_model.specs.Frame.{frame_of}
 
 -- each ring has fewer entries taken than the limit, also after this many more
 abbrev pub IsFew : {V : Type 0} → World V → ℕ → Type 0
-IsFew w more = (q : ℕ) → (ring_at w.held q).taken + more < limit
+IsFew w more = (q : ℕ) → (ring_at w.shared q).taken + more < limit
 
 guest-step : {V : Type 0} (w : World V) (calm : ℕ → Bool) → Invariant w calm → (actions : List Guest) → actions ≢ []
-    → Invariant (after_guest w actions) (λ q. cond (signals_kick w.held actions q) true (calm q && eqb (index_word (after_guest w actions).held q) (index_word w.held q)))
+    → Invariant (after_guest w actions) (λ q. cond (signals_kick w.shared actions q) true (calm q && eqb (index_word (after_guest w actions).shared q) (index_word w.shared q)))
 guest-step w calm i [] some = absurd (some refl)
 guest-step w calm i (action ∷ actions) some = sched-guest w calm i action actions
 
@@ -43,13 +43,13 @@ invariant-step m w calm few i (party.Worker k) l may = sched-worker m w calm (λ
 invariant-step m w calm few i party.Control (play.Control s said) may = sched-control w calm i s said may
 invariant-step m w calm few i p l may = absurd may
 
-guest-few : {V : Type 0} (w : World V) (actions : List Guest) (q : ℕ) → (ring_at (after_guest w actions).held q).taken ≤ (ring_at w.held q).taken + 1
+guest-few : {V : Type 0} (w : World V) (actions : List Guest) (q : ℕ) → (ring_at (after_guest w actions).shared q).taken ≤ (ring_at w.shared q).taken + 1
 guest-few w [] q = omega arith
 guest-few w (Store object offset bytes ∷ actions) q = omega arith
 guest-few w (Signal object ∷ actions) q = omega arith
 
 -- a control step takes none
-taken-set : {V : Type 0} (h : Held V) (p : ℕ) (r : Vring) → r.taken ≤ (ring_at h p).taken → (q : ℕ) → (ring_at (with_ring h p r) q).taken ≤ (ring_at h q).taken + 1
+taken-set : {V : Type 0} (h : Shared V) (p : ℕ) (r : Vring) → r.taken ≤ (ring_at h p).taken → (q : ℕ) → (ring_at (with_ring h p r) q).taken ≤ (ring_at h q).taken + 1
 taken-set h p r low q =
     elim (cases_eq q p) [
       | inl same ↦ elim (cases_lt p (length h.rings)) [
@@ -59,11 +59,11 @@ taken-set h p r low q =
       | inr other ↦ omega (arith, ap (λ (x : Vring). x.taken) (ring-other h p r q other))
     ]
 
-taken-small : {V : Type 0} (w : World V) (calm : ℕ → Bool) → Invariant w calm → (s : Small) (said : DeviceSaid) → MayControl w.held w.control.plan.steps s said → (q : ℕ) → (ring_at (after_control w s said).held q).taken ≤ (ring_at w.held q).taken + 1
+taken-small : {V : Type 0} (w : World V) (calm : ℕ → Bool) → Invariant w calm → (s : Small) (said : DeviceSaid) → MayControl w.shared w.control.plan.steps s said → (q : ℕ) → (ring_at (after_control w s said).shared q).taken ≤ (ring_at w.shared q).taken + 1
 taken-small w calm i s said may q = by s (first-fits w calm i s said may) where
-  by : (s : Small) → Fits w.wiring (frame_of w.held) w.control.plan.reply s (tail_of w.control.plan.steps) → (ring_at (small_after w.wiring w.held s) q).taken ≤ (ring_at w.held q).taken + 1
-  by (Set p o) fits = taken-set w.held p (ring_after (ring_at w.held p) o) (taken-changed w.wiring (frame_of w.held) p (ring_at w.held p) o fits.1) q
-  by (Info p desc avail used) fits = taken-set w.held p (ring_after (ring_at w.held p) (op.SetInfo desc avail used (next_used_at w.held.guest used))) (taken-info (ring_at w.held p) desc avail used (next_used_at w.held.guest used)) q
+  by : (s : Small) → Fits w.wiring (frame_of w.shared) w.control.plan.reply s (tail_of w.control.plan.steps) → (ring_at (small_after w.wiring w.shared s) q).taken ≤ (ring_at w.shared q).taken + 1
+  by (Set p o) fits = taken-set w.shared p (ring_after (ring_at w.shared p) o) (taken-changed w.wiring (frame_of w.shared) p (ring_at w.shared p) o fits.1) q
+  by (Info p desc avail used) fits = taken-set w.shared p (ring_after (ring_at w.shared p) (op.SetInfo desc avail used (next_used_at w.shared.guest used))) (taken-info (ring_at w.shared p) desc avail used (next_used_at w.shared.guest used)) q
   by (Claim o p) fits = omega arith
   by (Release o) fits = omega arith
   by (Add k o n) fits = omega arith
@@ -79,7 +79,7 @@ taken-small w calm i s said may q = by s (first-fits w calm i s said may) where
   by Answering fits = omega arith
 
 -- and takes one entry at most
-few-step : {V : Type 0} (m : Meaning V) (w : World V) (calm : ℕ → Bool) → IsFew w 0 → Invariant w calm → (p : Party) (l : Play) → May w p l → (q : ℕ) → (ring_at (after m w p l).held q).taken ≤ (ring_at w.held q).taken + 1
+few-step : {V : Type 0} (m : Meaning V) (w : World V) (calm : ℕ → Bool) → IsFew w 0 → Invariant w calm → (p : Party) (l : Play) → May w p l → (q : ℕ) → (ring_at (after m w p l).shared q).taken ≤ (ring_at w.shared q).taken + 1
 few-step m w calm few i party.Guest play.Guest may q = guest-few w w.guest q
 few-step m w calm few i (party.Worker k) l may q = taken-worker m w calm (λ q. omega (arith, few q)) i k l may q
 few-step m w calm few i party.Control (play.Control s said) may q = taken-small w calm i s said may q
@@ -115,8 +115,8 @@ no-signal w (party.Worker k) q = refl
 
 passed-calm : {V : Type 0} (w z : World V) (p : Party) (calm : ℕ → Bool) (q : ℕ) → calm_after w p play.Pass z calm q ≡ true → calm q ≡ true
 passed-calm w z p calm q is =
-    let here : cond false true (calm q && eqb (index_word z.held q) (index_word w.held q)) ≡ true = ap (λ b. cond false true (not b && calm q && eqb (index_word z.held q) (index_word w.held q))) (sym (no-unsettle w p q)) ∙ (ap (λ b. cond b true (not (unsettles w p play.Pass q) && calm q && eqb (index_word z.held q) (index_word w.held q))) (sym (no-signal w p q)) ∙ is) in
-    (and_parts (calm q) (eqb (index_word z.held q) (index_word w.held q)) here).0
+    let here : cond false true (calm q && eqb (index_word z.shared q) (index_word w.shared q)) ≡ true = ap (λ b. cond false true (not b && calm q && eqb (index_word z.shared q) (index_word w.shared q))) (sym (no-unsettle w p q)) ∙ (ap (λ b. cond b true (not (unsettles w p play.Pass q) && calm q && eqb (index_word z.shared q) (index_word w.shared q))) (sym (no-signal w p q)) ∙ is) in
+    (and_parts (calm q) (eqb (index_word z.shared q) (index_word w.shared q)) here).0
 
 pub invariant-turn : {V : Type 0} (m : Meaning V) (w : World V) (p : Party) (z : World V) (calm : ℕ → Bool) → IsFew w 0 → Invariant w calm → (l : Play) → Turn m w p l z → Invariant z (calm_after w p l z calm)
 invariant-turn {V} m w p z calm few i =

@@ -18,7 +18,7 @@ use Rattle.vub_model.specs.declared.setup.Setup.{Setup}
 use Rattle.vub_model.specs.declared.small.Small.{Small}
 use Rattle.vub_model.specs.declared.small.Small.TheVariants.{Claim, Release, Add, Delete, Listen, Unlisten, Bell, Remove, Insert, Set, Info, Table, Log, Device, Answer as Answering}
 use Rattle.vub_model.specs.RingRecord.{Vring, closed_ring, waits, fits, limit, changed, ring_after}
-use Rattle.vub_model.specs.Held.{Held, ring_at, with_ring, pending_at, has_number}
+use Rattle.vub_model.specs.Shared.{Shared, ring_at, with_ring, pending_at, has_number}
 use Rattle.vub_model.specs.Wiring.{Wiring, HasWorker}
 use Rattle.vub_model.specs.Control.{MayControl, small_after, next_used_at, tail_of}
 use Rattle.vub_model.specs.Frame.{Frame, frame_of}
@@ -71,8 +71,8 @@ own-numbers g k (n ∷ ns) all = (own-number g k n (all n (has-first n n ns refl
 
 invariant-owned : {V : Type 0} (w : World V) (calm : ℕ → Bool) → Invariant w calm → Owned w
 invariant-owned w calm i = record {
-  listed = λ k below. own-members w.wiring (frame_of w.held) k _ (i.linked.members k (let e = i.phases_size in omega (arith, below, e)));
-  pending = λ k. own-numbers w.wiring k (pending_at w.held k) (i.numbers k);
+  listed = λ k below. own-members w.wiring (frame_of w.shared) k _ (i.linked.members k (let e = i.phases_size in omega (arith, below, e)));
+  pending = λ k. own-numbers w.wiring k (pending_at w.shared k) (i.numbers k);
   phases = λ k. by k (phase_at w.phases k) refl (i.phases k);
 } where
   by : (k : ℕ) (phase : Phase) → phase_at w.phases k ≡ phase → PhaseFits w.wiring k phase → OwnPhase w.wiring k phase
@@ -89,11 +89,11 @@ invariant-owned w calm i = record {
 
 -- Control steps
 
-flight-small : {V : Type 0} (w : World V) (calm : ℕ → Bool) → Invariant w calm → (s : Small) (said : DeviceSaid) → MayControl w.held w.control.plan.steps s said → (q : ℕ) → (ring_at (small_after w.wiring w.held s) q).flight ≡ (ring_at w.held q).flight
+flight-small : {V : Type 0} (w : World V) (calm : ℕ → Bool) → Invariant w calm → (s : Small) (said : DeviceSaid) → MayControl w.shared w.control.plan.steps s said → (q : ℕ) → (ring_at (small_after w.wiring w.shared s) q).flight ≡ (ring_at w.shared q).flight
 flight-small w calm i s said may q = by s (first-fits w calm i s said may) where
-  by : (s : Small) → Fits w.wiring (frame_of w.held) w.control.plan.reply s (tail_of w.control.plan.steps) → (ring_at (small_after w.wiring w.held s) q).flight ≡ (ring_at w.held q).flight
-  by (Set p o) fits = field-kept (λ (x : Vring). x.flight) w.held p (ring_after (ring_at w.held p) o) (flight-kept w.wiring (frame_of w.held) p (ring_at w.held p) o fits.1) q
-  by (Info p desc avail used) fits = field-kept (λ (x : Vring). x.flight) w.held p (ring_after (ring_at w.held p) (op.SetInfo desc avail used (next_used_at w.held.guest used))) (info-flight (ring_at w.held p) desc avail used (next_used_at w.held.guest used)) q
+  by : (s : Small) → Fits w.wiring (frame_of w.shared) w.control.plan.reply s (tail_of w.control.plan.steps) → (ring_at (small_after w.wiring w.shared s) q).flight ≡ (ring_at w.shared q).flight
+  by (Set p o) fits = field-kept (λ (x : Vring). x.flight) w.shared p (ring_after (ring_at w.shared p) o) (flight-kept w.wiring (frame_of w.shared) p (ring_at w.shared p) o fits.1) q
+  by (Info p desc avail used) fits = field-kept (λ (x : Vring). x.flight) w.shared p (ring_after (ring_at w.shared p) (op.SetInfo desc avail used (next_used_at w.shared.guest used))) (info-flight (ring_at w.shared p) desc avail used (next_used_at w.shared.guest used)) q
   by (Claim o p) fits = refl
   by (Release o) fits = refl
   by (Add k o n) fits = refl
@@ -139,7 +139,7 @@ module _ (g : Wiring) (f : Frame) (q : ℕ) (r : Vring) (takes : List Take) (at 
   number-info desc avail used (Some n) = kept-if (op.SetInfo desc avail used (Some n)) at
 
 -- a write of one ring
-pub ring-all : {V : Type 0} (h : Held V) (p : ℕ) (r : Vring) (P : ℕ → Vring → Type 0) → (P p (ring_at h p) → P p r) → (q : ℕ) → P q (ring_at h q) → P q (ring_at (with_ring h p r) q)
+pub ring-all : {V : Type 0} (h : Shared V) (p : ℕ) (r : Vring) (P : ℕ → Vring → Type 0) → (P p (ring_at h p) → P p r) → (q : ℕ) → P q (ring_at h q) → P q (ring_at (with_ring h p r) q)
 ring-all h p r P new q was =
     elim (cases_eq q p) [
       | inl same ↦ (let F : ℕ → Type 0 = λ q. P q (ring_at h q) → P q (ring_at (with_ring h p r) q) in (subst F (sym same) here) was)
@@ -151,11 +151,11 @@ ring-all h p r P new q was =
         | inr past ↦ (let F : List Vring → Type 0 = λ l. P p (slice_index_or l p closed_ring) in subst F (sym (ring-past h p r past)) was)
       ]
 
-pub number-small : {V : Type 0} (w : World V) (calm : ℕ → Bool) → Invariant w calm → Numbered w → (s : Small) (said : DeviceSaid) → MayControl w.held w.control.plan.steps s said → Numbered (after_control w s said)
+pub number-small : {V : Type 0} (w : World V) (calm : ℕ → Bool) → Invariant w calm → Numbered w → (s : Small) (said : DeviceSaid) → MayControl w.shared w.control.plan.steps s said → Numbered (after_control w s said)
 number-small w calm i numbered s said may q = by s (first-fits w calm i s said may) where
-  by : (s : Small) → Fits w.wiring (frame_of w.held) w.control.plan.reply s (tail_of w.control.plan.steps) → RingNumbered (ring_at (small_after w.wiring w.held s) q) (takes_of q w.takes)
-  by (Set p o) ok = ring-all w.held p (ring_after (ring_at w.held p) o) (λ q r. RingNumbered r (takes_of q w.takes)) (λ was. number-op w.wiring (frame_of w.held) p (ring_at w.held p) (takes_of p w.takes) was o ok.1) q (numbered q)
-  by (Info p desc avail used) ok = ring-all w.held p (ring_after (ring_at w.held p) (op.SetInfo desc avail used (next_used_at w.held.guest used))) (λ q r. RingNumbered r (takes_of q w.takes)) (λ was. number-info w.wiring (frame_of w.held) p (ring_at w.held p) (takes_of p w.takes) was desc avail used (next_used_at w.held.guest used)) q (numbered q)
+  by : (s : Small) → Fits w.wiring (frame_of w.shared) w.control.plan.reply s (tail_of w.control.plan.steps) → RingNumbered (ring_at (small_after w.wiring w.shared s) q) (takes_of q w.takes)
+  by (Set p o) ok = ring-all w.shared p (ring_after (ring_at w.shared p) o) (λ q r. RingNumbered r (takes_of q w.takes)) (λ was. number-op w.wiring (frame_of w.shared) p (ring_at w.shared p) (takes_of p w.takes) was o ok.1) q (numbered q)
+  by (Info p desc avail used) ok = ring-all w.shared p (ring_after (ring_at w.shared p) (op.SetInfo desc avail used (next_used_at w.shared.guest used))) (λ q r. RingNumbered r (takes_of q w.takes)) (λ was. number-info w.wiring (frame_of w.shared) p (ring_at w.shared p) (takes_of p w.takes) was desc avail used (next_used_at w.shared.guest used)) q (numbered q)
   by (Claim o p) ok = numbered q
   by (Release o) ok = numbered q
   by (Add k o n) ok = numbered q
@@ -203,7 +203,7 @@ headline m constants setup v turns labels z short valid run =
     let fresh = opening-is-fresh constants setup v in
     let calls = asked m turns labels w in
     let all = served-run m turns labels w z (is_registered setup.rings) [] (λ q. omega (arith, short, opening-untaken constants setup v valid q)) (opening-meets constants setup v valid) (fresh-flow w fresh) (fresh-numbered w fresh) run in
-    let goes : (q : ℕ) → Goes z q (takes_of q z.takes) (asked_of q calls) (uses_of q z.uses) = λ q. flow-goes z all.2 q (takes_of q z.takes) (asked_of q calls) (uses_of q z.uses) (ring_at z.held q).flight refl (all.0 q) in
+    let goes : (q : ℕ) → Goes z q (takes_of q z.takes) (asked_of q calls) (uses_of q z.uses) = λ q. flow-goes z all.2 q (takes_of q z.takes) (asked_of q calls) (uses_of q z.uses) (ring_at z.shared q).flight refl (all.0 q) in
     record {
       replies = replay-run m turns labels w z run;
       in_order = λ q. (goes q).0;

@@ -22,15 +22,15 @@ use Rattle.vub_model.specs.declared.phase.Phase.{Phase}
 use Rattle.vub_model.specs.declared.phase.Phase.TheVariants.{Idle, Polled, Sweep, Heard, Serving, Taken, Served, Stopped}
 use Rattle.vub_model.specs.declared.ring_op.RingOp.TheVariants as op
 use Rattle.vub_model.specs.RingRecord.{Vring, is_on, has_addresses, is_in_flight, limit, changed}
-use Rattle.vub_model.specs.Held.{Held, ring_at, with_ring, count_at, counter_read}
+use Rattle.vub_model.specs.Shared.{Shared, ring_at, with_ring, count_at, counter_read}
 use Rattle.vub_model.specs.Wiring.{Wiring, opened_at, queues_of, IsPlaced}
-use Rattle.vub_model.specs.Work.{Local, MayWork, serving, stopped, is_object, after_kick, after_bell, after_event, after_heard, has_token, is_live, looked, entry_of, after_none, after_took, after_take, put_said, why_of, used, called, after_put, after_said}
+use Rattle.vub_model.specs.Work.{Local, MayWork, serving, stopped, is_object, after_kick, after_bell, after_event, after_heard, has_token, may_take, looked, entry_of, after_none, after_took, after_take, put_said, why_of, used, called, after_put, after_said}
 use Rattle.vub_model.specs.Schedule.{PhaseFits}
 use Rattle.vub_model.proofs.Places.{slot, few-queues}
 use Rattle.vub_model.specs.declared.cause.Why.{Why}
 
 -- a worker's step is one of seven
-pub work-cases : {V : Type 0} (g : Wiring) (worker : ℕ) (h : Held V) (P : Phase → Play → Type 0)
+pub work-cases : {V : Type 0} (g : Wiring) (worker : ℕ) (h : Shared V) (P : Phase → Play → Type 0)
     → ((object : ℕ) → MayWork g worker h Idle (play.Poll object) → P Idle (play.Poll object))
     → ((object token : ℕ) → P (Polled object token) play.Event)
     → P Sweep play.Sweep
@@ -70,38 +70,38 @@ live-if true true true d h = absurd cc
 live-if true false c d h = absurd cc
 live-if false b c d h = absurd cc
 
-pub live-parts : (r : Vring) → is_live r ≡ true → Live r
+pub live-parts : (r : Vring) → may_take r ≡ true → Live r
 live-parts r h =
     let all = live-if (is_on r) (has_addresses r) (is_in_flight r.flight) (nat_lt r.taken limit) h in
     record { on = all.0; addresses = all.1; free = all.2; few = all.3 }
 
-pub live-from : (r : Vring) → Live r → is_live r ≡ true
+pub live-from : (r : Vring) → Live r → may_take r ≡ true
 live-from r l = rw (l.on, l.addresses, l.free, l.few) refl
 
 -- what an op leaves that fits and does not wait
 abbrev pub taken-ring : Vring → Vring
 taken-ring r = changed r op.Taken
 
-module _ {V : Type 0} (g : Wiring) (worker : ℕ) (h : Held V) (P : Local V → Type 0) where
+module _ {V : Type 0} (g : Wiring) (worker : ℕ) (h : Shared V) (P : Local V → Type 0) where
   kick-leaf : (queue object : ℕ)
-      → (is_object (ring_at h queue).kick object ≡ true → P (record { held = counter_read h object; phase = cond (is_on (ring_at h queue)) (Serving (queue ∷ [])) Idle }))
-      → P (record { held = h; phase = Idle }) → P (after_kick h queue object)
+      → (is_object (ring_at h queue).kick object ≡ true → P (record { shared = counter_read h object; phase = cond (is_on (ring_at h queue)) (Serving (queue ∷ [])) Idle }))
+      → P (record { shared = h; phase = Idle }) → P (after_kick h queue object)
   kick-leaf queue object reads stale =
-      cond_both (is_object (ring_at h queue).kick object) (record { held = counter_read h object; phase = cond (is_on (ring_at h queue)) (Serving (queue ∷ [])) Idle }) (record { held = h; phase = Idle }) P reads (λ other. stale)
+      cond_both (is_object (ring_at h queue).kick object) (record { shared = counter_read h object; phase = cond (is_on (ring_at h queue)) (Serving (queue ∷ [])) Idle }) (record { shared = h; phase = Idle }) P reads (λ other. stale)
 
   bell-leaf : (bell : ℕ) (exit : Option ℕ)
-      → P (record { held = counter_read h bell; phase = Sweep })
-      → (count_at h.table bell ≡ 0 → P (record { held = h; phase = cond (is_some exit) (Stopped Exit) Idle })) → P (after_bell h bell exit)
+      → P (record { shared = counter_read h bell; phase = Sweep })
+      → (count_at h.table bell ≡ 0 → P (record { shared = h; phase = cond (is_some exit) (Stopped Exit) Idle })) → P (after_bell h bell exit)
   bell-leaf bell exit sweeps silent =
-      cond_both (nat_lt 0 (count_at h.table bell)) (record { held = counter_read h bell; phase = Sweep }) (record { held = h; phase = cond (is_some exit) (Stopped Exit) Idle }) P (λ above. sweeps) (λ none. silent (let low = ltb-false 0 (count_at h.table bell) none in omega arith))
+      cond_both (nat_lt 0 (count_at h.table bell)) (record { shared = counter_read h bell; phase = Sweep }) (record { shared = h; phase = cond (is_some exit) (Stopped Exit) Idle }) P (λ above. sweeps) (λ none. silent (let low = ltb-false 0 (count_at h.table bell) none in omega arith))
 
   -- an event is a kick, that is read or stale, or the bell
   pub event-leaf : (object token : ℕ) → PhaseFits g worker (Polled object token)
-      → ((queue : ℕ) → IsPlaced g queue worker token → is_object (ring_at h queue).kick object ≡ true → P (record { held = counter_read h object; phase = cond (is_on (ring_at h queue)) (Serving (queue ∷ [])) Idle }))
-      → P (record { held = h; phase = Idle })
-      → P (record { held = counter_read h (opened_at g worker).bell; phase = Sweep })
-      → (count_at h.table (opened_at g worker).bell ≡ 0 → P (record { held = h; phase = cond (is_some (opened_at g worker).exit) (Stopped Exit) Idle }))
-      → (g.queues < token → has_token (member_of (members_at h.table (opened_at g worker).list) object) token ≡ true → P (record { held = counter_read h object; phase = Heard token }))
+      → ((queue : ℕ) → IsPlaced g queue worker token → is_object (ring_at h queue).kick object ≡ true → P (record { shared = counter_read h object; phase = cond (is_on (ring_at h queue)) (Serving (queue ∷ [])) Idle }))
+      → P (record { shared = h; phase = Idle })
+      → P (record { shared = counter_read h (opened_at g worker).bell; phase = Sweep })
+      → (count_at h.table (opened_at g worker).bell ≡ 0 → P (record { shared = h; phase = cond (is_some (opened_at g worker).exit) (Stopped Exit) Idle }))
+      → (g.queues < token → has_token (member_of (members_at h.table (opened_at g worker).list) object) token ≡ true → P (record { shared = counter_read h object; phase = Heard token }))
       → P (after_event g worker h object token)
   event-leaf object token (inl is) reads stale sweeps silent hears =
       let past : nat_lt token (length (queues_of g worker)) ≡ false = le-ltb token (length (queues_of g worker)) (omega (arith, few-queues g worker, is)) in
@@ -110,7 +110,7 @@ module _ {V : Type 0} (g : Wiring) (worker : ℕ) (h : Held V) (P : Local V → 
   event-leaf object token (inr (inr high)) reads stale sweeps silent hears =
       let past : nat_lt token (length (queues_of g worker)) ≡ false = le-ltb token (length (queues_of g worker)) (omega (arith, few-queues g worker, high)) in
       let other : eqb token g.queues ≡ false = ne_eqb token g.queues (λ e. absurd (omega (arith, high, e))) in
-      rw (past, other) (cond_both {A = Local V} (has_token (member_of (members_at h.table (opened_at g worker).list) object) token) (record { held = counter_read h object; phase = Heard token }) (record { held = h; phase = Idle }) P (hears high) (λ not. stale))
+      rw (past, other) (cond_both {A = Local V} (has_token (member_of (members_at h.table (opened_at g worker).list) object) token) (record { shared = counter_read h object; phase = Heard token }) (record { shared = h; phase = Idle }) P (hears high) (λ not. stale))
   event-leaf object token (inr (inl number)) reads stale sweeps silent hears =
       let at = slot g number.0 worker token number.1 in
       let below : nat_lt token (length (queues_of g worker)) ≡ true = lt-ltb token (length (queues_of g worker)) at.0 in
@@ -118,10 +118,10 @@ module _ {V : Type 0} (g : Wiring) (worker : ℕ) (h : Held V) (P : Local V → 
 
   -- a take finds an entry of a live ring, or nothing, or damage
   took-leaf : (queue : ℕ) (rest : List ℕ)
-      → ((c : Chain) → Live (ring_at h queue) → P (record { held = with_ring h queue (taken-ring (ring_at h queue)); phase = Taken (entry_of queue (ring_at h queue) c) (queue ∷ rest) }))
-      → ((Live (ring_at h queue) → IsEmpty h.guest (ring_at h queue).queue) → P (record { held = after_none h queue; phase = serving rest }))
-      → ((d : Damage) → P (record { held = h; phase = stopped (why.Damage d) }))
-      → (b : Bool) → is_live (ring_at h queue) ≡ b → (t : Took) → TakenSo h.guest (ring_at h queue).queue (took_of h.guest (ring_at h queue).queue) → cond b (took_of h.guest (ring_at h queue).queue) took.None ≡ t → P (after_took h queue rest t)
+      → ((c : Chain) → Live (ring_at h queue) → P (record { shared = with_ring h queue (taken-ring (ring_at h queue)); phase = Taken (entry_of queue (ring_at h queue) c) (queue ∷ rest) }))
+      → ((Live (ring_at h queue) → IsEmpty h.guest (ring_at h queue).queue) → P (record { shared = after_none h queue; phase = serving rest }))
+      → ((d : Damage) → P (record { shared = h; phase = stopped (why.Damage d) }))
+      → (b : Bool) → may_take (ring_at h queue) ≡ b → (t : Took) → TakenSo h.guest (ring_at h queue).queue (took_of h.guest (ring_at h queue).queue) → cond b (took_of h.guest (ring_at h queue).queue) took.None ≡ t → P (after_took h queue rest t)
   took-leaf queue rest entry none damaged true live (took.Entry c) so is =
       let l = live-parts (ring_at h queue) live in
       rw (l.free, l.few) (entry c l)
@@ -132,24 +132,24 @@ module _ {V : Type 0} (g : Wiring) (worker : ℕ) (h : Held V) (P : Local V → 
   took-leaf queue rest entry none damaged false live (took.Damaged d) so is = absurd cc
 
   pub take-leaf : (queue : ℕ) (rest : List ℕ)
-      → ((c : Chain) → Live (ring_at h queue) → P (record { held = with_ring h queue (taken-ring (ring_at h queue)); phase = Taken (entry_of queue (ring_at h queue) c) (queue ∷ rest) }))
-      → ((Live (ring_at h queue) → IsEmpty h.guest (ring_at h queue).queue) → P (record { held = after_none h queue; phase = serving rest }))
-      → ((d : Damage) → P (record { held = h; phase = stopped (why.Damage d) }))
+      → ((c : Chain) → Live (ring_at h queue) → P (record { shared = with_ring h queue (taken-ring (ring_at h queue)); phase = Taken (entry_of queue (ring_at h queue) c) (queue ∷ rest) }))
+      → ((Live (ring_at h queue) → IsEmpty h.guest (ring_at h queue).queue) → P (record { shared = after_none h queue; phase = serving rest }))
+      → ((d : Damage) → P (record { shared = h; phase = stopped (why.Damage d) }))
       → P (after_take h (queue ∷ rest))
   unfolding looked
   take-leaf queue rest entry none damaged =
-      took-leaf queue rest entry none damaged (is_live (ring_at h queue)) refl (looked h queue) (takes_some h.guest (ring_at h queue).queue) refl
+      took-leaf queue rest entry none damaged (may_take (ring_at h queue)) refl (looked h queue) (takes_some h.guest (ring_at h queue).queue) refl
 
   -- a put is done or refused
   said-leaf : (e : Entry) (reply queues : List ℕ) (said : Result Bool PutFault)
-      → ((wanted : Bool) → P (record { held = called (used h e reply) (ring_at h e.queue).call wanted; phase = serving queues }))
-      → ((fault : PutFault) → P (record { held = with_ring h e.queue (changed (ring_at h e.queue) op.Hold); phase = stopped (why_of fault) }))
+      → ((wanted : Bool) → P (record { shared = called (used h e reply) (ring_at h e.queue).call wanted; phase = serving queues }))
+      → ((fault : PutFault) → P (record { shared = with_ring h e.queue (changed (ring_at h e.queue) op.Hold); phase = stopped (why_of fault) }))
       → P (after_said h e reply queues said)
   said-leaf e reply queues (Ok wanted) done refused = done wanted
   said-leaf e reply queues (Err fault) done refused = refused fault
 
   pub put-leaf : (e : Entry) (reply queues : List ℕ)
-      → ((wanted : Bool) → P (record { held = called (used h e reply) (ring_at h e.queue).call wanted; phase = serving queues }))
-      → ((fault : PutFault) → P (record { held = with_ring h e.queue (changed (ring_at h e.queue) op.Hold); phase = stopped (why_of fault) }))
+      → ((wanted : Bool) → P (record { shared = called (used h e reply) (ring_at h e.queue).call wanted; phase = serving queues }))
+      → ((fault : PutFault) → P (record { shared = with_ring h e.queue (changed (ring_at h e.queue) op.Hold); phase = stopped (why_of fault) }))
       → P (after_put h e reply queues)
   put-leaf e reply queues done refused = said-leaf e reply queues (put_said h e reply) done refused

@@ -26,7 +26,7 @@ use Rattle.vub_model.specs.declared.small.Small.TheVariants.{Claim, Release, Add
 use Rattle.vub_model.specs.declared.small.TableOp.{TableOp}
 use Rattle.vub_model.specs.declared.small.TableOp.TheVariants as table_op
 use Rattle.vub_model.specs.RingRecord.{waits, ring_after, is_in_flight}
-use Rattle.vub_model.specs.Held.{Held, ring_at, with_ring, raised, inserted, removed}
+use Rattle.vub_model.specs.Shared.{Shared, ring_at, with_ring, raised, inserted, removed}
 use Rattle.vub_model.specs.Frame.{Frame, claim_of, frame_of}
 use Rattle.vub_model.specs.Wiring.{Wiring, opened_at}
 use Rattle.vub_model.specs.Plans.{Reply, says, next_of, Plan, regions_after, plan_of}
@@ -78,7 +78,7 @@ abbrev pub regions_unless : Option MemError → List Region → List Region → 
 regions_unless None new old = new
 regions_unless (Some e) new old = old
 
-abbrev pub small_after : {V : Type 0} → Wiring → Held V → Small → Held V
+abbrev pub small_after : {V : Type 0} → Wiring → Shared V → Small → Shared V
 small_after g h (Claim object queue) = record h { table = if can_claim h.table object queue then claim_after h.table object queue else h.table }
 small_after g h (Release object) = record h { table = release_after h.table object }
 small_after g h (Add worker object token) =
@@ -100,7 +100,7 @@ small_after g h s = h
 -- Which step may be played
 
 -- an entry in flight lets the step wait
-abbrev pub waits_now : {V : Type 0} → Held V → Small → Bool
+abbrev pub waits_now : {V : Type 0} → Shared V → Small → Bool
 waits_now h (Set queue o) = waits (ring_at h queue) o
 waits_now h (Info queue desc avail used) = is_in_flight (ring_at h queue).flight
 waits_now h s = false
@@ -138,7 +138,7 @@ MaySay (Device call) said = IsOutcome call said
 MaySay s said = said ≡ outcome.Done
 
 -- the plan's first step, where it does not wait
-abbrev pub MayControl : {V : Type 0} → Held V → List Small → Small → DeviceSaid → Type 0
+abbrev pub MayControl : {V : Type 0} → Shared V → List Small → Small → DeviceSaid → Type 0
 MayControl h [] s said = ⊥
 MayControl h (t ∷ rest) s said = (s ≡ t) × (waits_now h t ≡ false) × MaySay t said
 
@@ -170,7 +170,7 @@ after_refusal None p = p
 after_refusal (Some e) p = instead (answer.Failed (error.ReqHandlerError (cause.Memory e))) p
 
 -- A refusal is answered alone, and an Add that finds its event there drops the next two steps.
-abbrev pub rest_after : {V : Type 0} → Wiring → Held V → Small → DeviceSaid → Plan → Plan
+abbrev pub rest_after : {V : Type 0} → Wiring → Shared V → Small → DeviceSaid → Plan → Plan
 rest_after g h (Claim object queue) said p = if can_claim h.table object queue then p else instead (answer.Failed error.InvalidParam) p
 rest_after g h (Add worker object token) said p =
     if can_add h.table (opened_at g worker).list object then p else record p { steps = drop_two p.steps }
@@ -186,11 +186,11 @@ rest_after g h s said p = p
 
 -- The answer
 
-abbrev pub answer_of : {V : Type 0} → Held V → Reply → Answer
+abbrev pub answer_of : {V : Type 0} → Shared V → Reply → Answer
 answer_of h (says a) = a
 answer_of h (next_of queue) = answer.Base queue (ring_at h queue).queue.next_avail
 
-abbrev pub answers_by : {V : Type 0} → Held V → Small → Plan → List Answer
+abbrev pub answers_by : {V : Type 0} → Shared V → Small → Plan → List Answer
 answers_by h Answering p = answer_of h p.reply ∷ []
 answers_by h s p = []
 
@@ -199,7 +199,7 @@ is_refusal (answer.Failed e) = true
 is_refusal (answer.Listener e) = true
 is_refusal a = false
 
-abbrev pub session_by : {V : Type 0} → Held V → Small → Plan → Session → Session
+abbrev pub session_by : {V : Type 0} → Shared V → Small → Plan → Session → Session
 session_by h Answering p s = if is_refusal (answer_of h p.reply) then s else p.session
 session_by h step p s = s
 
@@ -210,15 +210,15 @@ begun_from g f rs c [] [] = c
 begun_from g f rs c [] (r ∷ more) = record c { plan = plan_of g f rs c.session r; requests = more }
 begun_from g f rs c (s ∷ steps) requests = c
 
-abbrev pub begun : {V : Type 0} → Wiring → Held V → Control → Control
+abbrev pub begun : {V : Type 0} → Wiring → Shared V → Control → Control
 begun g h c = begun_from g (frame_of h) h.guest.regions c c.plan.steps c.requests
 
-abbrev pub played : {V : Type 0} → Wiring → Held V → Control → Small → DeviceSaid → Control
+abbrev pub played : {V : Type 0} → Wiring → Shared V → Control → Small → DeviceSaid → Control
 played g h c s said = record c {
   session = session_by h s c.plan c.session;
   plan = rest_after g h s said (record c.plan { steps = tail_of c.plan.steps });
   answers = c.answers ++ answers_by h s c.plan;
 }
 
-abbrev pub control_after : {V : Type 0} → Wiring → Held V → Control → Small → DeviceSaid → Control
+abbrev pub control_after : {V : Type 0} → Wiring → Shared V → Control → Small → DeviceSaid → Control
 control_after g h c s said = begun g (small_after g h s) (played g h c s said)

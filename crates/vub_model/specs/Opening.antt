@@ -22,7 +22,7 @@ use Rattle.vub_model.specs.declared.wiring.Opened.{Opened}
 use Rattle.vub_model.specs.declared.wiring.Place.{Place}
 use Rattle.vub_model.specs.RingRecord.{Vring, closed_ring, closed_queue}
 use Rattle.vub_model.specs.ValidSetup.{contents_from, given_region}
-use Rattle.vub_model.specs.Held.{Held, raised, inserted}
+use Rattle.vub_model.specs.Shared.{Shared, raised, inserted}
 use Rattle.vub_mem.specs.declared.mapping.Mapping.{Mapping}
 use Rattle.vub_proto.specs.declared.answer.Answer.TheVariants as answer
 use Rattle.vub_model.specs.declared.session.Session.{Session}
@@ -92,26 +92,26 @@ abbrev pub claimed_event : ℕ → Option Event → Option Event
 claimed_event queue None = None
 claimed_event queue (Some event) = Some (record event { claim = Some queue })
 
-abbrev pub claimed : {V : Type 0} → Held V → ℕ → ℕ → Held V
+abbrev pub claimed : {V : Type 0} → Shared V → ℕ → ℕ → Shared V
 claimed h kick queue = record h { table = with_event h.table kick (claimed_event queue (event_at h.table kick)) }
 
 -- the kick joins a worker's interest list
-abbrev pub joined : {V : Type 0} → Held V → ℕ → ℕ → ℕ → Held V
+abbrev pub joined : {V : Type 0} → Shared V → ℕ → ℕ → ℕ → Shared V
 joined h list kick number = record h { table = with_members h.table list (with_member (members_at h.table list) (listed kick number)) }
 
-abbrev pub placed : {V : Type 0} → Wiring → Held V → ℕ → Option Place → Held V
+abbrev pub placed : {V : Type 0} → Wiring → Shared V → ℕ → Option Place → Shared V
 placed g h kick None = h
 placed g h kick (Some p) =
     raised (inserted (joined h (opened_at g p.worker).list kick p.number) p.worker p.number) (opened_at g p.worker).bell
 
-abbrev pub registered_kick : {V : Type 0} → Wiring → Held V → GivenRing → Option ℕ → Held V
+abbrev pub registered_kick : {V : Type 0} → Wiring → Shared V → GivenRing → Option ℕ → Shared V
 registered_kick g h r None = h
 registered_kick g h r (Some kick) =
     if r.ready && r.enabled
     then placed g (claimed h kick r.queue) kick (place_of g r.queue)
     else claimed h kick r.queue
 
-abbrev pub registered : {V : Type 0} → Wiring → Held V → GivenRing → Held V
+abbrev pub registered : {V : Type 0} → Wiring → Shared V → GivenRing → Shared V
 registered g h r = registered_kick g h r r.kick
 
 -- The opening
@@ -125,12 +125,12 @@ abbrev pub opening_table : Constants → List Object → HostTable
 opening_table constants objects =
     record { objects = opening_events objects constants.masks; lists = map (λ w. opening_members constants.queues w) (wiring_of constants (length objects)).opened }
 
-abbrev pub before_rings : {V : Type 0} → Constants → Setup → V → Held V
+abbrev pub before_rings : {V : Type 0} → Constants → Setup → V → Shared V
 before_rings constants setup service =
     record { guest = record { regions = map given_region setup.regions; contents = contents_from 0 setup.objects }; rings = opening_rings constants setup.rings; table = opening_table constants setup.objects; pending = map (λ mask. []) constants.masks; service = service }
 
 -- what is held when all given rings are registered
-abbrev pub opening_held : {V : Type 0} → Constants → Setup → V → Held V
+abbrev pub opening_held : {V : Type 0} → Constants → Setup → V → Shared V
 opening_held constants setup service =
     fold (λ h r. registered (wiring_of constants (length setup.objects)) h r) (before_rings constants setup service) setup.rings
 
@@ -150,7 +150,7 @@ opening_control constants setup service =
 
 unfoldable pub opening : {V : Type 0} → Constants → Setup → V → World V
 opening constants setup service =
-    record { held = opening_held constants setup service; wiring = wiring_of constants (length setup.objects); phases = map (λ mask. Idle) constants.masks; guest = setup.guest; control = opening_control constants setup service; takes = []; uses = []; written = map unwritten setup.objects }
+    record { shared = opening_held constants setup service; wiring = wiring_of constants (length setup.objects); phases = map (λ mask. Idle) constants.masks; guest = setup.guest; control = opening_control constants setup service; takes = []; uses = []; written = map unwritten setup.objects }
 
 -- the opening counts as the registration of the rings that it registers
 abbrev pub is_registered : List GivenRing → ℕ → Bool

@@ -21,7 +21,7 @@ use Rattle.vub_model.specs.RingRecord.{is_on, has_addresses}
 use Rattle.vub_model.specs.EntryNumber.{has_left}
 pub use Rattle.vub_model.specs.Frame.{known_at, claim_at, list_at, is_member}
 use Rattle.vub_model.specs.Frame.{Frame, frame_of, is_there}
-use Rattle.vub_model.specs.Held.{Held, ring_at, count_at, pending_at, has_number}
+use Rattle.vub_model.specs.Shared.{Shared, ring_at, count_at, pending_at, has_number}
 use Rattle.vub_model.specs.Wiring.{Wiring, opened_at, IsPlaced, HasWorker}
 use Rattle.vub_model.specs.World.{World, phase_at}
 use Rattle.vub_model.specs.Running.{HasStopped}
@@ -172,7 +172,7 @@ HasInHand (Served e reply queues) queue = e.queue ≡ queue
 HasInHand phase queue = ⊥
 
 -- the ring has its last entry in flight and its addresses, and is ready: a ring does not cease to be while one is in flight
-pub record IsFlying {V : Type 0} (h : Held V) (queue : ℕ) : Type 0 where
+pub record IsFlying {V : Type 0} (h : Shared V) (queue : ℕ) : Type 0 where
   pub flight : (ring_at h queue).flight ≡ flight.InFlight
   pub addresses : has_addresses (ring_at h queue) ≡ true
   pub ready : (ring_at h queue).queue.ready ≡ true
@@ -187,8 +187,8 @@ pub data Rung (bell_count : ℕ) (phase : Phase) : Type 0 where
 -- a worker that has not stopped, with something pending, hears of it, or control is about to ring its bell
 abbrev pub AllRung : {V : Type 0} → World V → Type 0
 AllRung w =
-    (worker : ℕ) → worker < length w.wiring.opened → (HasStopped (phase_at w.phases worker) → ⊥) → pending_at w.held worker ≢ [] →
-    Rung (count_at w.held.table (opened_at w.wiring worker).bell) (phase_at w.phases worker) ⊎ First w.control.plan.steps (Bell (opened_at w.wiring worker).bell)
+    (worker : ℕ) → worker < length w.wiring.opened → (HasStopped (phase_at w.phases worker) → ⊥) → pending_at w.shared worker ≢ [] →
+    Rung (count_at w.shared.table (opened_at w.wiring worker).bell) (phase_at w.phases worker) ⊎ First w.control.plan.steps (Bell (opened_at w.wiring worker).bell)
 
 -- Kicks
 
@@ -206,25 +206,25 @@ IsHandled steps worker number kick = First steps (Insert worker number) ⊎ Firs
 abbrev pub Awake : {V : Type 0} → World V → (ℕ → Bool) → Type 0
 Awake w calm =
     (queue worker number kick : ℕ) → IsPlaced w.wiring queue worker number → (HasStopped (phase_at w.phases worker) → ⊥) →
-    (ring_at w.held queue).kick ≡ Some kick → is_member (members_at w.held.table (opened_at w.wiring worker).list) kick ≡ true →
-    is_on (ring_at w.held queue) ≡ true → has_addresses (ring_at w.held queue) ≡ true → calm queue ≡ true →
-    has_left w.held.guest (ring_at w.held queue) ≡ true →
-    Woken (count_at w.held.table kick) (pending_at w.held worker) (phase_at w.phases worker) queue number ⊎ IsHandled w.control.plan.steps worker number kick
+    (ring_at w.shared queue).kick ≡ Some kick → is_member (members_at w.shared.table (opened_at w.wiring worker).list) kick ≡ true →
+    is_on (ring_at w.shared queue) ≡ true → has_addresses (ring_at w.shared queue) ≡ true → calm queue ≡ true →
+    has_left w.shared.guest (ring_at w.shared queue) ≡ true →
+    Woken (count_at w.shared.table kick) (pending_at w.shared worker) (phase_at w.phases worker) queue number ⊎ IsHandled w.control.plan.steps worker number kick
 
 -- The schedule invariant, where these queues are calm.
 pub record Invariant {V : Type 0} (w : World V) (calm : ℕ → Bool) : Type 0 where
-  pub rings_size : length w.held.rings ≡ w.wiring.queues
+  pub rings_size : length w.shared.rings ≡ w.wiring.queues
   pub phases_size : length w.phases ≡ length w.wiring.opened
-  pub pending_size : length w.held.pending ≡ length w.wiring.opened
-  pub linked : Linked w.wiring (frame_of w.held)
-  pub wired : Wired w.wiring (frame_of w.held)
-  pub safe : Safe w.wiring (frame_of w.held) w.control.plan.reply w.control.plan.steps
-  pub requests : AllByRecursion (RequestFits w.wiring (frame_of w.held).events) w.control.requests
+  pub pending_size : length w.shared.pending ≡ length w.wiring.opened
+  pub linked : Linked w.wiring (frame_of w.shared)
+  pub wired : Wired w.wiring (frame_of w.shared)
+  pub safe : Safe w.wiring (frame_of w.shared) w.control.plan.reply w.control.plan.steps
+  pub requests : AllByRecursion (RequestFits w.wiring (frame_of w.shared).events) w.control.requests
   -- a pending number is that of a queue that has this worker
-  pub numbers : (worker number : ℕ) → has_number number (pending_at w.held worker) ≡ true → IsNumber w.wiring worker number
+  pub numbers : (worker number : ℕ) → has_number number (pending_at w.shared worker) ≡ true → IsNumber w.wiring worker number
   pub phases : (worker : ℕ) → PhaseFits w.wiring worker (phase_at w.phases worker)
   -- an entry in flight is in the hand of its queue's worker, and an entry in hand is in flight, of a ring with addresses
-  pub flies : (queue : ℕ) → (ring_at w.held queue).flight ≡ flight.InFlight → (worker : ℕ) × HasWorker w.wiring queue worker × HasInHand (phase_at w.phases worker) queue
-  pub hands : (worker queue : ℕ) → HasInHand (phase_at w.phases worker) queue → HasWorker w.wiring queue worker × IsFlying w.held queue
+  pub flies : (queue : ℕ) → (ring_at w.shared queue).flight ≡ flight.InFlight → (worker : ℕ) × HasWorker w.wiring queue worker × HasInHand (phase_at w.phases worker) queue
+  pub hands : (worker queue : ℕ) → HasInHand (phase_at w.phases worker) queue → HasWorker w.wiring queue worker × IsFlying w.shared queue
   pub rung : AllRung w
   pub awake : Awake w calm

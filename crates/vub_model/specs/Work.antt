@@ -27,14 +27,14 @@ use Rattle.vub_model.specs.declared.phase.Phase.TheVariants.{Idle, Polled, Sweep
 use Rattle.vub_model.specs.declared.ring_op.RingOp.TheVariants as op
 use Rattle.vub_model.specs.RingRecord.{Vring, is_on, has_addresses, is_in_flight, limit, ring_after}
 use Rattle.vub_model.specs.EntryNumber.{next_number}
-use Rattle.vub_model.specs.Held.{Held, ring_at, with_ring, count_at, counter_read, raised_or_none, is_ready, token_of, pending_at, swept}
+use Rattle.vub_model.specs.Shared.{Shared, ring_at, with_ring, count_at, counter_read, raised_or_none, is_ready, token_of, pending_at, swept}
 use Rattle.vub_model.specs.Wiring.{Wiring, opened_at, queues_of}
 use Rattle.vub_model.specs.Service.{Meaning}
 use Rattle.vub_model.specs.Control.{IsOutcome}
 
 -- what is held, and one worker's phase
 pub record Local (V : Type 0) : Type 0 where
-  pub held : Held V
+  pub shared : Shared V
   pub phase : Phase
 
 -- the worker serves these queues, or is idle where there is none
@@ -52,32 +52,32 @@ is_object None object = false
 is_object (Some other) object = other == object
 
 -- a kick is read to zero, and its queue served where it is ready and enabled; another event is stale
-abbrev pub after_kick : {V : Type 0} → Held V → ℕ → ℕ → Local V
+abbrev pub after_kick : {V : Type 0} → Shared V → ℕ → ℕ → Local V
 after_kick h queue object =
     if is_object (ring_at h queue).kick object
-    then record { held = counter_read h object; phase = if is_on (ring_at h queue) then Serving (queue ∷ []) else Idle }
-    else record { held = h; phase = Idle }
+    then record { shared = counter_read h object; phase = if is_on (ring_at h queue) then Serving (queue ∷ []) else Idle }
+    else record { shared = h; phase = Idle }
 
 -- a bell above zero is read to zero, and the pending numbers are due; at zero a worker with an exit object stops
-abbrev pub after_bell : {V : Type 0} → Held V → ℕ → Option ℕ → Local V
+abbrev pub after_bell : {V : Type 0} → Shared V → ℕ → Option ℕ → Local V
 after_bell h bell exit =
     if nat_lt 0 (count_at h.table bell)
-    then record { held = counter_read h bell; phase = Sweep }
-    else record { held = h; phase = if is_some exit then Stopped Exit else Idle }
+    then record { shared = counter_read h bell; phase = Sweep }
+    else record { shared = h; phase = if is_some exit then Stopped Exit else Idle }
 
 abbrev pub has_token : Option Member → ℕ → Bool
 has_token None token = false
 has_token (Some m) token = m.token == token
 
 -- a listener is read to zero and heard; another event is stale
-abbrev pub after_listener : {V : Type 0} → Held V → ℕ → ℕ → ℕ → Local V
+abbrev pub after_listener : {V : Type 0} → Shared V → ℕ → ℕ → ℕ → Local V
 after_listener h list object token =
     if has_token (member_of (members_at h.table list) object) token
-    then record { held = counter_read h object; phase = Heard token }
-    else record { held = h; phase = Idle }
+    then record { shared = counter_read h object; phase = Heard token }
+    else record { shared = h; phase = Idle }
 
 -- by the token: below the length of the worker's list a kick, the number of queues for bell and exit object, above it a listener
-abbrev pub after_event : {V : Type 0} → Wiring → ℕ → Held V → ℕ → ℕ → Local V
+abbrev pub after_event : {V : Type 0} → Wiring → ℕ → Shared V → ℕ → ℕ → Local V
 after_event g worker h object token =
     if nat_lt token (length (queues_of g worker))
     then after_kick h (slice_index (queues_of g worker) token) object
@@ -98,48 +98,48 @@ after_heard said = Idle
 abbrev pub queues_numbered : List ℕ → List ℕ → List ℕ
 queues_numbered queues numbers = map (λ n. slice_index queues n) (filter (λ n. nat_lt n (length queues)) numbers)
 
-abbrev pub after_sweep : {V : Type 0} → Wiring → ℕ → Held V → Local V
+abbrev pub after_sweep : {V : Type 0} → Wiring → ℕ → Shared V → Local V
 after_sweep g worker h =
-    record { held = swept h worker; phase = serving (queues_numbered (queues_of g worker) (pending_at h worker)) }
+    record { shared = swept h worker; phase = serving (queues_numbered (queues_of g worker) (pending_at h worker)) }
 
 -- Take
 
 -- an entry may be taken: the ring is ready and enabled, has its addresses, and no entry is in flight
-abbrev pub is_live : Vring → Bool
-is_live r = is_on r && has_addresses r && not (is_in_flight r.flight) && nat_lt r.taken limit
+abbrev pub may_take : Vring → Bool
+may_take r = is_on r && has_addresses r && not (is_in_flight r.flight) && nat_lt r.taken limit
 
 -- what the ring gives
-unfoldable pub looked : {V : Type 0} → Held V → ℕ → Took
-looked h queue = if is_live (ring_at h queue) then took_of h.guest (ring_at h queue).queue else took.None
+unfoldable pub looked : {V : Type 0} → Shared V → ℕ → Took
+looked h queue = if may_take (ring_at h queue) then took_of h.guest (ring_at h queue).queue else took.None
 
 abbrev pub entry_of : ℕ → Vring → Chain → Entry
 entry_of queue r c = record { queue = queue; epoch = r.epoch; number = next_number r; chain = c }
 
 -- where nothing is left, a live ring publishes the number of the next entry, if notifications go by index
-abbrev pub after_none : {V : Type 0} → Held V → ℕ → Held V
+abbrev pub after_none : {V : Type 0} → Shared V → ℕ → Shared V
 after_none h queue =
-    if is_live (ring_at h queue) then record h { guest = guest_taken h.guest (ring_at h queue).queue took.None } else h
+    if may_take (ring_at h queue) then record h { guest = guest_taken h.guest (ring_at h queue).queue took.None } else h
 
-abbrev pub after_took : {V : Type 0} → Held V → ℕ → List ℕ → Took → Local V
+abbrev pub after_took : {V : Type 0} → Shared V → ℕ → List ℕ → Took → Local V
 after_took h queue rest (took.Entry c) =
-    record { held = with_ring h queue (ring_after (ring_at h queue) op.Taken); phase = Taken (entry_of queue (ring_at h queue) c) (queue ∷ rest) }
-after_took h queue rest took.None = record { held = after_none h queue; phase = serving rest }
-after_took h queue rest (took.Damaged d) = record { held = h; phase = stopped (why.Damage d) }
+    record { shared = with_ring h queue (ring_after (ring_at h queue) op.Taken); phase = Taken (entry_of queue (ring_at h queue) c) (queue ∷ rest) }
+after_took h queue rest took.None = record { shared = after_none h queue; phase = serving rest }
+after_took h queue rest (took.Damaged d) = record { shared = h; phase = stopped (why.Damage d) }
 
-abbrev pub after_take : {V : Type 0} → Held V → List ℕ → Local V
-after_take h [] = record { held = h; phase = Idle }
+abbrev pub after_take : {V : Type 0} → Shared V → List ℕ → Local V
+after_take h [] = record { shared = h; phase = Idle }
 after_take h (queue ∷ rest) = after_took h queue rest (looked h queue)
 
 -- Serve
 
-abbrev pub after_serve : {V : Type 0} → Meaning V → Held V → Entry → List ℕ → Local V
+abbrev pub after_serve : {V : Type 0} → Meaning V → Shared V → Entry → List ℕ → Local V
 after_serve m h e queues =
-    record { held = record h { service = m.after h.service e.chain.request e.chain.room }; phase = Served e (m.reply_of h.service e.chain.request e.chain.room) queues }
+    record { shared = record h { service = m.after h.service e.chain.request e.chain.room }; phase = Served e (m.reply_of h.service e.chain.request e.chain.room) queues }
 
 -- Put
 
 -- whether the used entry is told of, or why the use is refused
-unfoldable pub put_said : {V : Type 0} → Held V → Entry → List ℕ → Result Bool PutFault
+unfoldable pub put_said : {V : Type 0} → Shared V → Entry → List ℕ → Result Bool PutFault
 put_said h e reply =
     if has_addresses (ring_at h e.queue)
     then put_answer h.guest.regions (ring_at h e.queue).queue e.chain reply (wants_notification (put_guest h.guest (ring_at h e.queue).queue e.chain reply) (ring_used (ring_at h e.queue).queue))
@@ -150,25 +150,25 @@ why_of put_fault.RoomOutside = why.RoomOutside
 why_of put_fault.RingOutside = why.RingOutside
 
 -- the reply stands in memory, and the ring's used index is raised
-abbrev pub used : {V : Type 0} → Held V → Entry → List ℕ → Held V
+abbrev pub used : {V : Type 0} → Shared V → Entry → List ℕ → Shared V
 used h e reply =
     record h { guest = put_guest h.guest (ring_at h e.queue).queue e.chain reply; rings = (with_ring h e.queue (ring_after (ring_at h e.queue) op.Put)).rings }
 
 -- the call is signalled, where the driver wants it
-abbrev pub called : {V : Type 0} → Held V → Option ℕ → Bool → Held V
+abbrev pub called : {V : Type 0} → Shared V → Option ℕ → Bool → Shared V
 called h call false = h
 called h call true = raised_or_none h call
 
-abbrev pub after_said : {V : Type 0} → Held V → Entry → List ℕ → List ℕ → Result Bool PutFault → Local V
-after_said h e reply queues (Ok wanted) = record { held = called (used h e reply) (ring_at h e.queue).call wanted; phase = serving queues }
-after_said h e reply queues (Err fault) = record { held = with_ring h e.queue (ring_after (ring_at h e.queue) op.Hold); phase = stopped (why_of fault) }
+abbrev pub after_said : {V : Type 0} → Shared V → Entry → List ℕ → List ℕ → Result Bool PutFault → Local V
+after_said h e reply queues (Ok wanted) = record { shared = called (used h e reply) (ring_at h e.queue).call wanted; phase = serving queues }
+after_said h e reply queues (Err fault) = record { shared = with_ring h e.queue (ring_after (ring_at h e.queue) op.Hold); phase = stopped (why_of fault) }
 
-abbrev pub after_put : {V : Type 0} → Held V → Entry → List ℕ → List ℕ → Local V
+abbrev pub after_put : {V : Type 0} → Shared V → Entry → List ℕ → List ℕ → Local V
 after_put h e reply queues = after_said h e reply queues (put_said h e reply)
 
 -- May and After of a worker
 
-abbrev pub MayWork : {V : Type 0} → Wiring → ℕ → Held V → Phase → Play → Type 0
+abbrev pub MayWork : {V : Type 0} → Wiring → ℕ → Shared V → Phase → Play → Type 0
 MayWork g worker h Idle (play.Poll object) = is_ready h.table (opened_at g worker).list object ≡ true
 MayWork g worker h (Polled object token) play.Event = Unit {0}
 MayWork g worker h Sweep play.Sweep = Unit {0}
@@ -178,12 +178,12 @@ MayWork g worker h (Taken e queues) play.Serve = Unit {0}
 MayWork g worker h (Served e reply queues) play.Put = Unit {0}
 MayWork g worker h phase l = ⊥
 
-abbrev pub after_work : {V : Type 0} → Meaning V → Wiring → ℕ → Held V → Phase → Play → Local V
-after_work m g worker h Idle (play.Poll object) = record { held = h; phase = Polled object (token_of h.table (opened_at g worker).list object) }
+abbrev pub after_work : {V : Type 0} → Meaning V → Wiring → ℕ → Shared V → Phase → Play → Local V
+after_work m g worker h Idle (play.Poll object) = record { shared = h; phase = Polled object (token_of h.table (opened_at g worker).list object) }
 after_work m g worker h (Polled object token) play.Event = after_event g worker h object token
 after_work m g worker h Sweep play.Sweep = after_sweep g worker h
-after_work m g worker h (Heard token) (play.Hear said) = record { held = h; phase = after_heard said }
+after_work m g worker h (Heard token) (play.Hear said) = record { shared = h; phase = after_heard said }
 after_work m g worker h (Serving queues) play.Take = after_take h queues
 after_work m g worker h (Taken e queues) play.Serve = after_serve m h e queues
 after_work m g worker h (Served e reply queues) play.Put = after_put h e reply queues
-after_work m g worker h phase l = record { held = h; phase = phase }
+after_work m g worker h phase l = record { shared = h; phase = phase }

@@ -18,15 +18,15 @@ use Rattle.vub_model.specs.declared.setup.Guest.{Guest}
 use Rattle.vub_model.specs.declared.setup.Guest.TheVariants.{Store, Signal}
 use Rattle.vub_model.specs.declared.small.Small.{Small}
 use Rattle.vub_model.specs.Control.{Control, small_after, MayControl, control_after}
-use Rattle.vub_model.specs.Held.{Held, ring_at, raised}
+use Rattle.vub_model.specs.Shared.{Shared, ring_at, raised}
 use Rattle.vub_model.specs.Service.{Meaning}
 use Rattle.vub_model.specs.Wiring.{Wiring}
-use Rattle.vub_model.specs.Work.{Local, MayWork, after_work, looked, put_said, is_live}
+use Rattle.vub_model.specs.Work.{Local, MayWork, after_work, looked, put_said, may_take}
 use Rattle.vub_model.specs.Written.{Spot, put_spots, take_spots, with_spots}
 use Rattle.std.specs.Prelude.{if◌then◌else◌}
 
 pub record World (V : Type 0) : Type 0 where
-  pub held : Held V
+  pub shared : Shared V
   pub wiring : Wiring
   -- by worker
   pub phases : List Phase
@@ -50,13 +50,13 @@ unfoldable pub stored : memory.Guest → ℕ → ℕ → List ℕ → memory.Gue
 stored g object offset bytes =
     if nat_le (offset + length bytes) (length (content_of g.contents object)) then store_at g object offset bytes else g
 
-abbrev pub acted : {V : Type 0} → Held V → Guest → Held V
+abbrev pub acted : {V : Type 0} → Shared V → Guest → Shared V
 acted h (Store object offset bytes) = record h { guest = stored h.guest object offset bytes }
 acted h (Signal object) = raised h object
 
 abbrev pub after_guest : {V : Type 0} → World V → List Guest → World V
 after_guest w [] = w
-after_guest w (action ∷ actions) = record w { held = acted w.held action; guest = actions }
+after_guest w (action ∷ actions) = record w { shared = acted w.shared action; guest = actions }
 
 -- What a worker's step records
 
@@ -76,38 +76,38 @@ if_used (Ok wanted) xs = xs
 if_used (Err fault) xs = []
 
 -- what a Put that begins in this phase used
-abbrev pub uses_by : {V : Type 0} → Held V → Play → Phase → List Used
+abbrev pub uses_by : {V : Type 0} → Shared V → Play → Phase → List Used
 uses_by h play.Put (Served e reply queues) = if_used (put_said h e reply) (used_of e reply ∷ [])
 uses_by h l phase = []
 
 -- the bytes that a step that begins in this phase wrote
-abbrev pub written_by : {V : Type 0} → Held V → Play → Phase → List Spot
+abbrev pub written_by : {V : Type 0} → Shared V → Play → Phase → List Spot
 written_by h play.Take (Serving (queue ∷ rest)) =
-    if is_live (ring_at h queue) then take_spots h.guest.regions (ring_at h queue).queue (looked h queue) else []
+    if may_take (ring_at h queue) then take_spots h.guest.regions (ring_at h queue).queue (looked h queue) else []
 written_by h play.Put (Served e reply queues) =
     if_used (put_said h e reply) (put_spots h.guest.regions (ring_at h e.queue).queue e.chain reply)
 written_by h l phase = []
 
 abbrev pub after_local : {V : Type 0} → World V → ℕ → Play → Phase → Local V → World V
 after_local w worker l before local =
-    record w { held = local.held; phases = slice_set w.phases worker local.phase; takes = w.takes ++ takes_by l local.phase; uses = w.uses ++ uses_by w.held l before; written = with_spots w.written (written_by w.held l before) }
+    record w { shared = local.shared; phases = slice_set w.phases worker local.phase; takes = w.takes ++ takes_by l local.phase; uses = w.uses ++ uses_by w.shared l before; written = with_spots w.written (written_by w.shared l before) }
 
 -- Control
 
 abbrev pub after_control : {V : Type 0} → World V → Small → DeviceSaid → World V
-after_control w s said = record w { held = small_after w.wiring w.held s; control = control_after w.wiring w.held w.control s said }
+after_control w s said = record w { shared = small_after w.wiring w.shared s; control = control_after w.wiring w.shared w.control s said }
 
 -- May and After
 
 -- the label may be played by this party now
 abbrev pub May : {V : Type 0} → World V → Party → Play → Type 0
 May w party.Guest play.Guest = w.guest ≢ []
-May w party.Control (play.Control s said) = MayControl w.held w.control.plan.steps s said
-May w (party.Worker k) l = MayWork w.wiring k w.held (phase_at w.phases k) l
+May w party.Control (play.Control s said) = MayControl w.shared w.control.plan.steps s said
+May w (party.Worker k) l = MayWork w.wiring k w.shared (phase_at w.phases k) l
 May w p l = ⊥
 
 abbrev pub after : {V : Type 0} → Meaning V → World V → Party → Play → World V
 after m w party.Guest play.Guest = after_guest w w.guest
 after m w party.Control (play.Control s said) = after_control w s said
-after m w (party.Worker k) l = after_local w k l (phase_at w.phases k) (after_work m w.wiring k w.held (phase_at w.phases k) l)
+after m w (party.Worker k) l = after_local w k l (phase_at w.phases k) (after_work m w.wiring k w.shared (phase_at w.phases k) l)
 after m w p l = w

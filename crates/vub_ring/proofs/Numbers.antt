@@ -1,7 +1,7 @@
 -- A pending set with one number more, by the place where it goes.
 use Rattle.std.proofs.Common.{◌≡◌, ℕ, suc, ◌≤◌, true, false, nat_lt, if◌then◌else◌, List, [], ◌∷◌, length, insert, refl, arith}
 use Rattle.std.proofs.lemmas.Bool.Decides.{nat_tests}
-use Rattle.vub_model.specs.Held.{with_number}
+use Rattle.vub_model.specs.Shared.{with_number}
 use Rattle.vub_ring.specs.Pending.{place_in, is_there}
 
 pub place_within : (ms : List ℕ) (n : ℕ) → place_in ms n ≤ length ms

@@ -11,7 +11,7 @@ use Rattle.vub_event.specs.Faults.{CountsFaults}
 use Rattle.vub_event.specs.HostTable.{HostTable, event_at, with_event}
 use Rattle.vub_event.specs.HostCalls.{Meets, Done, due_of, with_change, value_of, SignalCall, ConsumeCall, signal_refusal, signal_after, consume_refusal, consume_value, consume_after}
 use Rattle.vub_event.specs.Counter.{write_refusal, written, read_refusal, read_value, after_read}
-use Rattle.vub_model.specs.Held.{raised_event, raised_option, read_option}
+use Rattle.vub_model.specs.Shared.{raised_event, raised_option, read_option}
 use Rattle.vub_ring.specs.Faults.{CountsFaults as CountsPartsFaults}
 use Rattle.vub_ring.specs.Play.{OnTable, CallsIf, table_called, table_wanted}
 use Rattle.vub_ring.specs.declared.ops.PartsError.{PartsError}

@@ -6,7 +6,7 @@ use Rattle.vub_event.specs.HostTable.{HostTable, event_at, with_event}
 use Rattle.vub_event.specs.HostCalls.{Meets, Done, due_of}
 use Rattle.vub_ring.specs.declared.ops.PartsError.{PartsError}
 use Rattle.vub_ring.specs.declared.ops.PartsError.TheVariants.{Fault}
-use Rattle.vub_model.specs.Held.{raised_option, read_option}
+use Rattle.vub_model.specs.Shared.{raised_option, read_option}
 
 -- what would block counts as done
 abbrev pub settled : {T : Type 0} → Result T HostError → Result (Unit {0}) HostError

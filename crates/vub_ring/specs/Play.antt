@@ -19,8 +19,8 @@ use Rattle.vub_queue.specs.declared.putting.PutFault.TheVariants as put_fault
 use Rattle.vub_model.specs.declared.ring_op.RingOp.TheVariants as op
 use Rattle.vub_model.specs.RingRecord.{Vring, ring_after, is_on, has_addresses}
 use Rattle.vub_model.specs.EntryNumber.{next_number}
-use Rattle.vub_model.specs.Held.{with_number, without_number}
-use Rattle.vub_model.specs.Work.{is_live, is_object}
+use Rattle.vub_model.specs.Shared.{with_number, without_number}
+use Rattle.vub_model.specs.Work.{may_take, is_object}
 use Rattle.vub_ring.specs.Events.{table_raised, table_read}
 use Rattle.vub_ring.specs.declared.ops.TableRing.{TableRing}
 use Rattle.vub_ring.specs.declared.ops.TableRing.TheVariants as table_ring
@@ -46,11 +46,11 @@ OnTable (Err e) old new R = Told old new (λ a b. b ≡ a)
 
 -- what a live ring gives, and nothing from any other
 unfoldable pub found : Guest → Vring → Took
-found g r = if is_live r then took_of g r.queue else took.None
+found g r = if may_take r then took_of g r.queue else took.None
 
 -- the memory where nothing was found: a live ring publishes the number of the next entry, if notifications go by index
 unfoldable pub guest_none : Guest → Vring → Guest
-guest_none g r = if is_live r then guest_taken g r.queue took.None else g
+guest_none g r = if may_take r then guest_taken g r.queue took.None else g
 
 abbrev pub guest_found : Guest → Vring → Took → Guest
 guest_found g r (took.Entry c) = g
@@ -61,7 +61,7 @@ guest_found g r (took.Damaged d) = g
 -- of the next entry, where nothing was found.
 abbrev pub marks_found : List Region → Vring → Took → List Mark
 marks_found rs r (took.Entry c) = []
-marks_found rs r took.None = if is_live r then marks_taken rs r.queue took.None else []
+marks_found rs r took.None = if may_take r then marks_taken rs r.queue took.None else []
 marks_found rs r (took.Damaged d) = []
 
 abbrev pub table_marks : List Region → Vring → TableRingSaid → List Mark

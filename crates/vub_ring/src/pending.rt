@@ -1,5 +1,5 @@
 ghost use Rattle.std.specs.Prelude.{◌≡◌, [], OnOk, OnErr};
-ghost use Rattle.vub_model.specs.Held.{with_number, without_number};
+ghost use Rattle.vub_model.specs.Shared.{with_number, without_number};
 ghost use Rattle.vub_ring.specs.Pending.{place_in, is_there};
 
 use std::alloc::Global;

@@ -106,7 +106,7 @@ fn take_found<L: DirtyLog>(
     ensures room { IfOk result take_specs.HasRoom }
     ensures err { OnErr result (memory.new ≡ memory.old) }
 {
-    if !ring.is_live() {
+    if !ring.may_take() {
         return Ok(Took::None);
     }
     let mut queue = ring.get_queue().copy();

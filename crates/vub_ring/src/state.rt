@@ -15,7 +15,7 @@ ghost use Rattle.vub_queue.specs.Settings.{info_answer};
 ghost use Rattle.vub_model.specs.RingRecord.{is_in_flight, is_on, needs_no_flight, waits, fits, based, changed, said_in_time, ring_said, ring_after};
 ghost use Rattle.vub_model.specs.EntryNumber.{next_number};
 ghost use Rattle.vub_model.specs.Opening.{new_vring};
-ghost use Rattle.vub_model.specs.Work.{is_live, is_object};
+ghost use Rattle.vub_model.specs.Work.{may_take, is_object};
 ghost use Rattle.vub_ring.specs.State.{LendsQueue, sized, changed_if, SignalsCall, ReadsKick};
 
 use crate::events::{raise, read};
@@ -400,8 +400,8 @@ impl VringState {
 
     /// Whether an entry may be taken: the ring is ready and enabled, has its addresses, no entry is in flight, and fewer
     /// than 2^63 were taken.
-    pub fn is_live(&self) -> bool
-        ensures { result ≡ is_live self.now }
+    pub fn may_take(&self) -> bool
+        ensures { result ≡ may_take self.now }
     {
         self.is_on()
             && self.queue.addresses().is_some()

@@ -16,7 +16,7 @@ use Rattle.vub_model.specs.declared.cause.VringEpollError.{VringEpollError}
 use Rattle.vub_model.specs.declared.cause.VringEpollError.TheVariants.{EpollCreateFd, EpollWait, RegisterExitEvent, HandleEventReadKick, HandleEventBackendHandling, NewEventConsumerNotifier, RegisterVringEnabledEvent, HandleVringEnabledEventConsume, OutOfMemory as Lacking, VringIndexOutOfRange}
 use Rattle.vub_model.specs.declared.constants.Constants.{Constants}
 use Rattle.vub_model.specs.declared.wiring.Opened.{Opened}
-use Rattle.vub_model.specs.Held.{Held}
+use Rattle.vub_model.specs.Shared.{Shared}
 use Rattle.vub_model.specs.Opening.{listed, exit_member}
 use Rattle.vub_vring.specs.declared.ops.HostOp.TheVariants as host
 use Rattle.vub_vring.specs.declared.ops.HostSaid.{HostSaid}
@@ -30,7 +30,7 @@ use Rattle.vub_ring.proofs.Settling.{told-map}
 
 -- The calls of the host
 
-list-made : {V : Type 0} (s : HostSaid) (old new : Held V) → HostCall host.CreateList s old new → MakesList (number_of s) old new
+list-made : {V : Type 0} (s : HostSaid) (old new : Shared V) → HostCall host.CreateList s old new → MakesList (number_of s) old new
 list-made (said.Number n) old new m = (m.0.1.0, m.1 ∙ ap (λ t. record old { table = t }) m.0.2)
 list-made said.Done old new m = absurd m.0
 list-made (said.Count n) old new m = absurd m.0
@@ -38,7 +38,7 @@ list-made (said.Member b) old new m = absurd m.0
 list-made (said.Ready r) old new m = absurd m.0
 list-made (said.Refused e) old new m = absurd m.0
 
-pub told_list : {V : Type 0} (s : HostSaid) (old new : Option (Held V)) → Told old new (HostCall host.CreateList s) → Told old new (MakesList (number_of s))
+pub told_list : {V : Type 0} (s : HostSaid) (old new : Option (Shared V)) → Told old new (HostCall host.CreateList s) → Told old new (MakesList (number_of s))
 told_list s old new h = told-map old new (HostCall host.CreateList s) (MakesList (number_of s)) (list-made s) h
 
 some-is : {A : Type 0} {x y : A} → Some x ≡ Some y → x ≡ y
@@ -47,7 +47,7 @@ some-is h = cc
 none-due : {A : Type 0} (x : A) → None ≡ Some x → ⊥
 none-due x h = cc
 
-bell-made : {V : Type 0} (s : HostSaid) (old new : Held V) → IsSaid s → HostCall (host.CreateEvent 2048) s old new → MakesBell (number_of s) old new
+bell-made : {V : Type 0} (s : HostSaid) (old new : Shared V) → IsSaid s → HostCall (host.CreateEvent 2048) s old new → MakesBell (number_of s) old new
 bell-made (said.Number n) old new is m = (m.0.1.0, m.1 ∙ ap (λ t. record old { table = t }) m.0.2)
 bell-made said.Done old new is m = absurd m.0
 bell-made (said.Count n) old new is m = absurd m.0
@@ -63,13 +63,13 @@ bell-made (said.Refused Failed) old new is m = absurd (is)
 bell-made (said.Refused Claimed) old new is m = absurd (none-due Claimed m.0.0)
 bell-made (said.Refused OutOfMemory) old new is m = absurd (is)
 
-pub told_bell : {V : Type 0} (s : HostSaid) (old new : Option (Held V)) → IsSaid s → Told old new (HostCall (host.CreateEvent 2048) s) → Told old new (MakesBell (number_of s))
+pub told_bell : {V : Type 0} (s : HostSaid) (old new : Option (Shared V)) → IsSaid s → Told old new (HostCall (host.CreateEvent 2048) s) → Told old new (MakesBell (number_of s))
 told_bell s old new is h = told-map old new (HostCall (host.CreateEvent 2048) s) (MakesBell (number_of s)) (λ a b m. bell-made s a b is m) h
 
 joined-when : (table : HostTable) (list : ℕ) (m : Member) (due : Option HostError) → add_refusal table list m ≡ due → (if is_none due then add_after table list m else table) ≡ joined_table table list m
 joined-when table list m due is = ap (λ d. if is_none d then add_after table list m else table) (sym is)
 
-join-made : {V : Type 0} (list object : ℕ) (set : EventSet) (token : ℕ) (s : HostSaid) (old new : Held V) → IsSaid s → HostCall (host.Add list object set token) s old new → Joins list (member_for object set token) old new
+join-made : {V : Type 0} (list object : ℕ) (set : EventSet) (token : ℕ) (s : HostSaid) (old new : Shared V) → IsSaid s → HostCall (host.Add list object set token) s old new → Joins list (member_for object set token) old new
 join-made list object set token said.Done old new is m = m.1 ∙ ap (λ t. record old { table = t }) (m.0.2 ∙ joined-when old.table list (member_for object set token) None m.0.0)
 join-made list object set token (said.Number n) old new is m = absurd m.0
 join-made list object set token (said.Count n) old new is m = absurd m.0
@@ -85,7 +85,7 @@ join-made list object set token (said.Refused Failed) old new is m = absurd is
 join-made list object set token (said.Refused Claimed) old new is m = m.1 ∙ ap (λ t. record old { table = t }) (m.0.1 ∙ joined-when old.table list (member_for object set token) (Some Claimed) m.0.0)
 join-made list object set token (said.Refused OutOfMemory) old new is m = absurd is
 
-pub told_join : {V : Type 0} (list object : ℕ) (set : EventSet) (token : ℕ) (s : HostSaid) (old new : Option (Held V)) → IsSaid s → Told old new (HostCall (host.Add list object set token) s) → Told old new (Joins list (member_for object set token))
+pub told_join : {V : Type 0} (list object : ℕ) (set : EventSet) (token : ℕ) (s : HostSaid) (old new : Option (Shared V)) → IsSaid s → Told old new (HostCall (host.Add list object set token) s) → Told old new (Joins list (member_for object set token))
 told_join list object set token s old new is h = told-map old new (HostCall (host.Add list object set token) s) (Joins list (member_for object set token)) (λ a b m. join-made list object set token s a b is m) h
 
 -- The count of faults
@@ -198,42 +198,42 @@ bell-joins t queues exit there =
 
 -- what is held, after the four calls
 
-exit-held : {V : Type 0} (list : ℕ) (exit : Option ℕ) (token : ℕ) (old new : Held V) → JoinsExit list exit token old new → new ≡ record old { table = exit-table old.table list exit token }
+exit-shared : {V : Type 0} (list : ℕ) (exit : Option ℕ) (token : ℕ) (old new : Shared V) → JoinsExit list exit token old new → new ≡ record old { table = exit-table old.table list exit token }
 unfolding exit-table
-exit-held list None token old new is = is
-exit-held list (Some exit) token old new is = is
+exit-shared list None token old new is = is
+exit-shared list (Some exit) token old new is = is
 
 same-objects : (t : HostTable) (queues : ℕ) (exit : Option ℕ) → HasExit t exit → (exit-table (create_list_after t) (length t.lists) exit queues).objects ≡ t.objects
 same-objects t queues exit there = ap (λ table. table.objects) (exit-joins t queues exit there)
 
-opened-held : {V : Type 0} (queues worker list bell : ℕ) (exit : Option ℕ) (h one two three four : Held V) → MakesList list h one → JoinsExit list exit queues one two → MakesBell bell two three → Joins list (listed bell queues) three four → Opens queues (record { worker = worker; list = list; bell = bell; exit = exit }) h four
-opened-held {V} queues worker list bell exit h one two three four makes exits bells joins there =
+opened-shared : {V : Type 0} (queues worker list bell : ℕ) (exit : Option ℕ) (h one two three four : Shared V) → MakesList list h one → JoinsExit list exit queues one two → MakesBell bell two three → Joins list (listed bell queues) three four → Opens queues (record { worker = worker; list = list; bell = bell; exit = exit }) h four
+opened-shared {V} queues worker list bell exit h one two three four makes exits bells joins there =
     let second : two ≡ record h { table = exit-table (create_list_after h.table) list exit queues } =
-    exit-held list exit queues one two exits ∙ ap {A = Held V} (λ x. record x { table = exit-table x.table list exit queues }) makes.1 in
+    exit-shared list exit queues one two exits ∙ ap {A = Shared V} (λ x. record x { table = exit-table x.table list exit queues }) makes.1 in
     let Q : ℕ → Type 0 = λ n. exit-table (create_list_after h.table) n exit queues ≡ record { objects = h.table.objects; lists = h.table.lists ++ exit_member exit queues ∷ [] } in
     let table : exit-table (create_list_after h.table) list exit queues ≡ record { objects = h.table.objects; lists = h.table.lists ++ exit_member exit queues ∷ [] } =
     subst Q (sym makes.0) (exit-joins h.table queues exit there) in
-    let held : two ≡ record h { table = record { objects = h.table.objects; lists = h.table.lists ++ exit_member exit queues ∷ [] } } =
+    let shared : two ≡ record h { table = record { objects = h.table.objects; lists = h.table.lists ++ exit_member exit queues ∷ [] } } =
     second ∙ ap {A = HostTable} (λ t. record h { table = t }) table in
-    let number : bell ≡ length h.table.objects = bells.0 ∙ ap {A = Held V} (λ x. length x.table.objects) held in
+    let number : bell ≡ length h.table.objects = bells.0 ∙ ap {A = Shared V} (λ x. length x.table.objects) shared in
     let last : four ≡ record h { table = joined_table (create_event_after (record { objects = h.table.objects; lists = h.table.lists ++ exit_member exit queues ∷ [] }) 2048) list (listed bell queues) } =
-    joins ∙ (ap {A = Held V} (λ x. record x { table = joined_table x.table list (listed bell queues) }) bells.1 ∙ ap {A = Held V} (λ x. record x { table = joined_table (create_event_after x.table 2048) list (listed bell queues) }) held) in
+    joins ∙ (ap {A = Shared V} (λ x. record x { table = joined_table x.table list (listed bell queues) }) bells.1 ∙ ap {A = Shared V} (λ x. record x { table = joined_table (create_event_after x.table 2048) list (listed bell queues) }) shared) in
     let R : ℕ → ℕ → Type 0 = λ l b. joined_table (create_event_after (record { objects = h.table.objects; lists = h.table.lists ++ exit_member exit queues ∷ [] }) 2048) l (listed b queues) ≡ record { objects = h.table.objects ++ Some (new_event 0) ∷ []; lists = h.table.lists ++ with_member (exit_member exit queues) (listed b queues) ∷ [] } in
     let S : ℕ → Type 0 = λ l. R l bell in
     let U : ℕ → Type 0 = λ b. R (length h.table.lists) b in
     (makes.0, number, last ∙ ap {A = HostTable} (λ t. record h { table = t }) (subst S (sym makes.0) (subst U (sym number) (bell-joins h.table queues exit there))))
 
 -- the same where the parts may tell nothing
-pub opened_told : {V : Type 0} (queues worker list bell : ℕ) (exit : Option ℕ) (h one two three four : Option (Held V)) → Told h one (MakesList list) → Told one two (JoinsExit list exit queues) → Told two three (MakesBell bell) → Told three four (Joins list (listed bell queues)) → Told h four (Opens queues (record { worker = worker; list = list; bell = bell; exit = exit }))
+pub opened_told : {V : Type 0} (queues worker list bell : ℕ) (exit : Option ℕ) (h one two three four : Option (Shared V)) → Told h one (MakesList list) → Told one two (JoinsExit list exit queues) → Told two three (MakesBell bell) → Told three four (Joins list (listed bell queues)) → Told h four (Opens queues (record { worker = worker; list = list; bell = bell; exit = exit }))
 opened_told queues worker list bell exit None one two three four a b c d = tt
 opened_told queues worker list bell exit (Some h) None two three four a b c d = absurd a
 opened_told queues worker list bell exit (Some h) (Some one) None three four a b c d = absurd b
 opened_told queues worker list bell exit (Some h) (Some one) (Some two) None four a b c d = absurd c
 opened_told queues worker list bell exit (Some h) (Some one) (Some two) (Some three) None a b c d = absurd d
-opened_told queues worker list bell exit (Some h) (Some one) (Some two) (Some three) (Some four) a b c d = opened-held queues worker list bell exit h one two three four a b c d
+opened_told queues worker list bell exit (Some h) (Some one) (Some two) (Some three) (Some four) a b c d = opened-shared queues worker list bell exit h one two three four a b c d
 
 -- by the device's constants, where they are told
-pub opened_for : {V : Type 0} (told : Option Constants) (constants : Constants) (worker : ℕ) (w : Opened) (old new : Option (Held V)) → ForSome told (λ k. constants ≡ k) → w.exit ≡ exit_in constants worker → Told old new (Opens constants.queues w) → ForSome told (λ k. OpensFor k worker w old new)
+pub opened_for : {V : Type 0} (told : Option Constants) (constants : Constants) (worker : ℕ) (w : Opened) (old new : Option (Shared V)) → ForSome told (λ k. constants ≡ k) → w.exit ≡ exit_in constants worker → Told old new (Opens constants.queues w) → ForSome told (λ k. OpensFor k worker w old new)
 opened_for told constants worker w old new are exit opens k is =
     let same : constants ≡ k = are k is in
     let P : Constants → Type 0 = λ c. Told old new (Opens c.queues w) in
@@ -247,45 +247,45 @@ exit-is t queues None = refl
 exit-is t queues (Some exit) = refl
 
 -- the table after the list is made; after the exit object; after the bell
-list-left : {V : Type 0} (list : ℕ) (h one : Held V) → MakesList list h one → one ≡ record h { table = create_list_after h.table }
+list-left : {V : Type 0} (list : ℕ) (h one : Shared V) → MakesList list h one → one ≡ record h { table = create_list_after h.table }
 list-left list h one makes = makes.1
 
-exit-left : {V : Type 0} (queues list : ℕ) (exit : Option ℕ) (h one two : Held V) → MakesList list h one → JoinsExit list exit queues one two → two ≡ record h { table = with_exit h.table queues exit }
+exit-left : {V : Type 0} (queues list : ℕ) (exit : Option ℕ) (h one two : Shared V) → MakesList list h one → JoinsExit list exit queues one two → two ≡ record h { table = with_exit h.table queues exit }
 exit-left {V} queues list exit h one two makes exits =
     let second : two ≡ record h { table = exit-table (create_list_after h.table) list exit queues } =
-    exit-held list exit queues one two exits ∙ ap {A = Held V} (λ x. record x { table = exit-table x.table list exit queues }) makes.1 in
+    exit-shared list exit queues one two exits ∙ ap {A = Shared V} (λ x. record x { table = exit-table x.table list exit queues }) makes.1 in
     second ∙ ap {A = HostTable} (λ t. record h { table = t }) (ap (λ n. exit-table (create_list_after h.table) n exit queues) makes.0 ∙ exit-is h.table queues exit)
 
-bell-left : {V : Type 0} (queues list bell : ℕ) (exit : Option ℕ) (h one two three : Held V) → MakesList list h one → JoinsExit list exit queues one two → MakesBell bell two three → three ≡ record h { table = with_bell h.table queues exit }
+bell-left : {V : Type 0} (queues list bell : ℕ) (exit : Option ℕ) (h one two three : Shared V) → MakesList list h one → JoinsExit list exit queues one two → MakesBell bell two three → three ≡ record h { table = with_bell h.table queues exit }
 bell-left {V} queues list bell exit h one two three makes exits bells =
-    bells.1 ∙ ap {A = Held V} (λ x. record x { table = create_event_after x.table 0x800 }) (exit-left queues list exit h one two makes exits)
+    bells.1 ∙ ap {A = Shared V} (λ x. record x { table = create_event_after x.table 0x800 }) (exit-left queues list exit h one two makes exits)
 
 -- a step that stops leaves what stood before it
-left-at : {V : Type 0} (queues : ℕ) (exit : Option ℕ) (fault e : VringEpollError) (table : HostTable) (h new : Held V) → Leaves queues exit fault h.table table → Leaves queues exit Lacking h.table table → ((e ≡ fault) ⊎ (e ≡ Lacking)) → new ≡ record h { table = table } → LeavesMade queues exit e h new
+left-at : {V : Type 0} (queues : ℕ) (exit : Option ℕ) (fault e : VringEpollError) (table : HostTable) (h new : Shared V) → Leaves queues exit fault h.table table → Leaves queues exit Lacking h.table table → ((e ≡ fault) ⊎ (e ≡ Lacking)) → new ≡ record h { table = table } → LeavesMade queues exit e h new
 left-at {V} queues exit fault e table h new named lacking answer is =
     let P : VringEpollError → HostTable → Type 0 = λ x t. Leaves queues exit x h.table t in
-    let same : table ≡ new.table = sym (ap {A = Held V} (λ x. x.table) is) in
+    let same : table ≡ new.table = sym (ap {A = Shared V} (λ x. x.table) is) in
     let leaves : Leaves queues exit e h.table table = elim answer [ inl f ↦ subst (λ x. P x table) (sym f) named | inr l ↦ subst (λ x. P x table) (sym l) lacking ] in
     (subst (P e) same leaves, is ∙ ap {A = HostTable} (λ t. record h { table = t }) same)
 
-pub lacks_held : {V : Type 0} (queues : ℕ) (exit : Option ℕ) (h new : Option (Held V)) → new ≡ h → Told h new (LeavesMade queues exit Lacking)
+pub lacks_held : {V : Type 0} (queues : ℕ) (exit : Option ℕ) (h new : Option (Shared V)) → new ≡ h → Told h new (LeavesMade queues exit Lacking)
 lacks_held queues exit None new is = tt
 lacks_held queues exit (Some h) None is = absurd (cc)
 lacks_held queues exit (Some h) (Some new) is = left-at queues exit EpollCreateFd Lacking h.table h new refl (inl refl) (inr refl) (some-is is)
 
-pub list_stops : {V : Type 0} (queues : ℕ) (exit : Option ℕ) (e : VringEpollError) (h new : Option (Held V)) → Stops EpollCreateFd h new e → Told h new (LeavesMade queues exit e)
+pub list_stops : {V : Type 0} (queues : ℕ) (exit : Option ℕ) (e : VringEpollError) (h new : Option (Shared V)) → Stops EpollCreateFd h new e → Told h new (LeavesMade queues exit e)
 list_stops queues exit e None new s = tt
 list_stops queues exit e (Some h) None s = let is = s.1 in absurd (cc)
 list_stops queues exit e (Some h) (Some new) s = left-at queues exit EpollCreateFd e h.table h new refl (inl refl) s.0 (some-is s.1)
 
-pub exit_stops : {V : Type 0} (queues list : ℕ) (exit : Option ℕ) (e : VringEpollError) (h one new : Option (Held V)) → Told h one (MakesList list) → Stops RegisterExitEvent one new e → Told h new (LeavesMade queues exit e)
+pub exit_stops : {V : Type 0} (queues list : ℕ) (exit : Option ℕ) (e : VringEpollError) (h one new : Option (Shared V)) → Told h one (MakesList list) → Stops RegisterExitEvent one new e → Told h new (LeavesMade queues exit e)
 exit_stops queues list exit e None one new a s = tt
 exit_stops queues list exit e (Some h) None new a s = absurd a
 exit_stops queues list exit e (Some h) (Some one) None a s = let is = s.1 in absurd (cc)
 exit_stops queues list exit e (Some h) (Some one) (Some new) a s =
     left-at queues exit RegisterExitEvent e (create_list_after h.table) h new refl (inr (inl refl)) s.0 (some-is s.1 ∙ list-left list h one a)
 
-pub bell_stops : {V : Type 0} (queues list : ℕ) (exit : Option ℕ) (e : VringEpollError) (h one two new : Option (Held V)) → Told h one (MakesList list) → Told one two (JoinsExit list exit queues) → Stops NewEventConsumerNotifier two new e → Told h new (LeavesMade queues exit e)
+pub bell_stops : {V : Type 0} (queues list : ℕ) (exit : Option ℕ) (e : VringEpollError) (h one two new : Option (Shared V)) → Told h one (MakesList list) → Told one two (JoinsExit list exit queues) → Stops NewEventConsumerNotifier two new e → Told h new (LeavesMade queues exit e)
 bell_stops queues list exit e None one two new a b s = tt
 bell_stops queues list exit e (Some h) None two new a b s = absurd a
 bell_stops queues list exit e (Some h) (Some one) None new a b s = absurd b
@@ -293,7 +293,7 @@ bell_stops queues list exit e (Some h) (Some one) (Some two) None a b s = let is
 bell_stops queues list exit e (Some h) (Some one) (Some two) (Some new) a b s =
     left-at queues exit NewEventConsumerNotifier e (with_exit h.table queues exit) h new refl (inr (inr (inl refl))) s.0 (some-is s.1 ∙ exit-left queues list exit h one two a b)
 
-pub join_stops : {V : Type 0} (queues list bell : ℕ) (exit : Option ℕ) (e : VringEpollError) (h one two three new : Option (Held V)) → Told h one (MakesList list) → Told one two (JoinsExit list exit queues) → Told two three (MakesBell bell) → Stops RegisterVringEnabledEvent three new e → Told h new (LeavesMade queues exit e)
+pub join_stops : {V : Type 0} (queues list bell : ℕ) (exit : Option ℕ) (e : VringEpollError) (h one two three new : Option (Shared V)) → Told h one (MakesList list) → Told one two (JoinsExit list exit queues) → Told two three (MakesBell bell) → Stops RegisterVringEnabledEvent three new e → Told h new (LeavesMade queues exit e)
 join_stops queues list bell exit e None one two three new a b c s = tt
 join_stops queues list bell exit e (Some h) None two three new a b c s = absurd a
 join_stops queues list bell exit e (Some h) (Some one) None three new a b c s = absurd b
@@ -303,7 +303,7 @@ join_stops queues list bell exit e (Some h) (Some one) (Some two) (Some three) (
     left-at queues exit RegisterVringEnabledEvent e (with_bell h.table queues exit) h new refl (inr (inr (inr refl))) s.0 (some-is s.1 ∙ bell-left queues list bell exit h one two three a b c)
 
 -- by the device's constants, where they are told
-pub left_for : {V : Type 0} (told : Option Constants) (constants : Constants) (worker : ℕ) (exit : Option ℕ) (e : VringEpollError) (old new : Option (Held V)) → ForSome told (λ k. constants ≡ k) → exit ≡ exit_in constants worker → Told old new (LeavesMade constants.queues exit e) → ForSome told (λ k. Told old new (LeavesMade k.queues (exit_in k worker) e))
+pub left_for : {V : Type 0} (told : Option Constants) (constants : Constants) (worker : ℕ) (exit : Option ℕ) (e : VringEpollError) (old new : Option (Shared V)) → ForSome told (λ k. constants ≡ k) → exit ≡ exit_in constants worker → Told old new (LeavesMade constants.queues exit e) → ForSome told (λ k. Told old new (LeavesMade k.queues (exit_in k worker) e))
 left_for told constants worker exit e old new are is leaves k told-is =
     let same : constants ≡ k = are k told-is in
     let P : Constants → Type 0 = λ c. Told old new (LeavesMade c.queues (exit_in c worker) e) in

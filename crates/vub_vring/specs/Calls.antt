@@ -12,7 +12,7 @@ use Rattle.vub_model.specs.declared.ring_op.RingOp.TheVariants as op
 use Rattle.vub_model.specs.declared.ring_op.RingSaid.{RingSaid}
 use Rattle.vub_model.specs.RingRecord.{ring_said, ring_after, is_on}
 use Rattle.vub_model.specs.EntryNumber.{next_number}
-use Rattle.vub_model.specs.Held.{Held, ring_at, with_ring, counter_read, inserted, removed, swept, pending_at}
+use Rattle.vub_model.specs.Shared.{Shared, ring_at, with_ring, counter_read, inserted, removed, swept, pending_at}
 use Rattle.vub_model.specs.Service.{Meaning}
 use Rattle.vub_model.specs.Work.{is_object, looked, after_none, put_said, used, called}
 use Rattle.vub_ring.specs.declared.ops.TableRing.{TableRing}
@@ -40,21 +40,21 @@ Called (Ok s) old new R = Told old new (R s)
 Called (Err e) old new R = new ≡ old
 
 -- `ring`: the op is applied to the ring
-abbrev pub RingCall : {V : Type 0} → ℕ → RingOp → RingSaid → Held V → Held V → Type 0
+abbrev pub RingCall : {V : Type 0} → ℕ → RingOp → RingSaid → Shared V → Shared V → Type 0
 RingCall queue o s old new = (s ≡ ring_said (ring_at old queue) o) × (new ≡ with_ring old queue (ring_after (ring_at old queue) o))
 
 -- `ring_table`, a Take: what the ring gives
-abbrev pub TakeCall : {V : Type 0} → ℕ → TableRingSaid → Held V → Held V → Type 0
+abbrev pub TakeCall : {V : Type 0} → ℕ → TableRingSaid → Shared V → Shared V → Type 0
 TakeCall queue (table_said.Taken epoch number c) old new =
     (looked old queue ≡ took.Entry c) × (epoch ≡ (ring_at old queue).epoch) × (number ≡ next_number (ring_at old queue)) × (new ≡ with_ring old queue (ring_after (ring_at old queue) op.Taken))
 TakeCall queue table_said.Nothing old new = (looked old queue ≡ took.None) × (new ≡ after_none old queue)
 TakeCall queue (table_said.Damaged d) old new = (looked old queue ≡ took.Damaged d) × (new ≡ old)
 
-abbrev pub TableRingCall : {V : Type 0} → ℕ → TableRing → TableRingSaid → Held V → Held V → Type 0
+abbrev pub TableRingCall : {V : Type 0} → ℕ → TableRing → TableRingSaid → Shared V → Shared V → Type 0
 TableRingCall queue table_ring.Take s old new = TakeCall queue s old new
 
 -- `ring_host`: the counter of the ring's kick is read
-abbrev pub KickCall : {V : Type 0} → ℕ → ℕ → KickSaid → Held V → Held V → Type 0
+abbrev pub KickCall : {V : Type 0} → ℕ → ℕ → KickSaid → Shared V → Shared V → Type 0
 KickCall queue object Stale old new = (is_object (ring_at old queue).kick object ≡ false) × (new ≡ old)
 KickCall queue object Serve old new =
     (is_object (ring_at old queue).kick object ≡ true) × (is_on (ring_at old queue) ≡ true) × (new ≡ counter_read old object)
@@ -62,30 +62,30 @@ KickCall queue object Quiet old new =
     (is_object (ring_at old queue).kick object ≡ true) × (is_on (ring_at old queue) ≡ false) × (new ≡ counter_read old object)
 
 -- `put`: the entry is used with the reply, and the call is signalled where the driver wants it; or it is held
-abbrev pub PutCall : {V : Type 0} → Entry → List ℕ → PutSaid → Held V → Held V → Type 0
+abbrev pub PutCall : {V : Type 0} → Entry → List ℕ → PutSaid → Shared V → Shared V → Type 0
 PutCall e reply put_answer.Done old new =
     (wanted : Bool) × (put_said old e reply ≡ Ok wanted) × (new ≡ called (used old e reply) (ring_at old e.queue).call wanted)
 PutCall e reply (put_answer.Held fault) old new =
     (put_said old e reply ≡ Err fault) × (new ≡ with_ring old e.queue (ring_after (ring_at old e.queue) op.Hold))
 
 -- the same where the host failed at the signal of the call, which is passed over
-abbrev pub PutUncalled : {V : Type 0} → Entry → List ℕ → PutSaid → Held V → Held V → Type 0
+abbrev pub PutUncalled : {V : Type 0} → Entry → List ℕ → PutSaid → Shared V → Shared V → Type 0
 PutUncalled e reply put_answer.Done old new = (put_said old e reply ≡ Ok true) × (new ≡ used old e reply)
 PutUncalled e reply (put_answer.Held fault) old new = ⊥
 
 -- a use whose signal is passed over where the host fails
-abbrev pub PutTried : {V : Type 0} → Type 0 → Entry → List ℕ → PutSaid → Held V → Held V → Type 0
+abbrev pub PutTried : {V : Type 0} → Type 0 → Entry → List ℕ → PutSaid → Shared V → Shared V → Type 0
 PutTried Rise e reply s old new = PutCall e reply s old new ⊎ (Rise × PutUncalled e reply s old new)
 
 -- `pend`: a change of a worker's pending set
-abbrev pub PendCall : {V : Type 0} → ℕ → PendOp → PendSaid → Held V → Held V → Type 0
+abbrev pub PendCall : {V : Type 0} → ℕ → PendOp → PendSaid → Shared V → Shared V → Type 0
 PendCall worker (pend.Insert n) pend_said.Done old new = new ≡ inserted old worker n
 PendCall worker (pend.Remove n) pend_said.Done old new = new ≡ removed old worker n
 PendCall worker pend.TakeAll (pend_said.All numbers) old new = (numbers ≡ pending_at old worker) × (new ≡ swept old worker)
 PendCall worker o s old new = ⊥
 
 -- `service`: the service is asked for the reply to the entry
-abbrev pub ServiceCall : {V : Type 0} → Meaning V → Entry → List ℕ → Held V → Held V → Type 0
+abbrev pub ServiceCall : {V : Type 0} → Meaning V → Entry → List ℕ → Shared V → Shared V → Type 0
 ServiceCall m e reply old new =
     (reply ≡ m.reply_of old.service e.chain.request e.chain.room) × (new ≡ record old { service = m.after old.service e.chain.request e.chain.room })
 
@@ -129,5 +129,5 @@ IsSaid (said.Refused host_error.Failed) = ⊥
 IsSaid (said.Refused host_error.OutOfMemory) = ⊥
 IsSaid s = Unit {0}
 
-abbrev pub HostCall : {V : Type 0} → HostOp → HostSaid → Held V → Held V → Type 0
+abbrev pub HostCall : {V : Type 0} → HostOp → HostSaid → Shared V → Shared V → Type 0
 HostCall o s old new = HostTableCall o s old.table new.table × (new ≡ record old { table = new.table })

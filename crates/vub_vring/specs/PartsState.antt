@@ -3,14 +3,14 @@ use Rattle.std.specs.Prelude.{◌≡◌, ◌≤◌, ℕ, Option, Result}
 use Rattle.vub_base.specs.Causes.{Rose}
 use Rattle.vub_base.specs.Told.{Told}
 use Rattle.vub_model.specs.declared.constants.Constants.{Constants}
-use Rattle.vub_model.specs.Held.{Held}
+use Rattle.vub_model.specs.Shared.{Shared}
 use Rattle.vub_ring.specs.Faults.{CountsFaults}
 use Rattle.vub_ring.specs.declared.ops.PartsError.{PartsError}
 use Rattle.vub_vring.specs.Calls.{Called}
 
 pub record PartsState (V : Type 0) : Type 1 where
   -- what is held, where it is told
-  pub held : Option (Held V)
+  pub shared : Option (Shared V)
   -- how many calls of the host have failed
   pub faults : ℕ
   -- the host has no call that is to fail
@@ -26,12 +26,12 @@ HasFailed old new = Rose old.faults new.faults
 
 -- A call that was made says and leaves what the relation says, where what is held is told. One that was not made changes
 -- nothing, told or not.
-abbrev pub IsCall : {V S : Type 0} → PartsState V → PartsState V → Result S PartsError → (S → Held V → Held V → Type 0) → Type 0
-IsCall old new result R = Called result old.held new.held R
+abbrev pub IsCall : {V S : Type 0} → PartsState V → PartsState V → Result S PartsError → (S → Shared V → Shared V → Type 0) → Type 0
+IsCall old new result R = Called result old.shared new.shared R
 
 -- where what is held is told, it and what is held after are in this relation
-abbrev pub Tells : {V : Type 0} → PartsState V → PartsState V → (Held V → Held V → Type 0) → Type 0
-Tells old new R = Told old.held new.held R
+abbrev pub Tells : {V : Type 0} → PartsState V → PartsState V → (Shared V → Shared V → Type 0) → Type 0
+Tells old new R = Told old.shared new.shared R
 
 -- What every call leaves: a fault comes only where the count of faults rose, and what is lent and the constants stay.
 pub record Keeps {V S : Type 0} (old new : PartsState V) (result : Result S PartsError) : Type 0 where
@@ -41,7 +41,7 @@ pub record Keeps {V S : Type 0} (old new : PartsState V) (result : Result S Part
 
 -- nothing changes
 pub record IsUntouched {V : Type 0} (old new : PartsState V) : Type 0 where
-  pub held : new.held ≡ old.held
+  pub shared : new.shared ≡ old.shared
   pub faults : new.faults ≡ old.faults
   pub still : old.NeverFails → new.NeverFails
   pub loan : new.loan ≡ old.loan

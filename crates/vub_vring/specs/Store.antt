@@ -3,7 +3,7 @@ use Rattle.std.specs.Prelude.{◌≡◌, ℕ, List, [], ◌∷◌, slice_index_o
 use Rattle.vub_mem.specs.Memory.{Guest}
 use Rattle.vub_queue.specs.declared.chain.Chain.{Chain}
 use Rattle.vub_model.specs.RingRecord.{Vring, closed_ring}
-use Rattle.vub_model.specs.Held.{Held}
+use Rattle.vub_model.specs.Shared.{Shared}
 use Rattle.vub_ring.specs.declared.ops.TableRingSaid.{TableRingSaid}
 use Rattle.vub_ring.specs.declared.ops.PutSaid.{PutSaid}
 use Rattle.vub_ring.specs.declared.ops.PendOp.{PendOp}
@@ -12,8 +12,8 @@ use Rattle.vub_ring.specs.declared.ops.PendSaid.{PendSaid}
 use Rattle.vub_vring.specs.declared.store.Store.{Store}
 use Rattle.vub_ring.specs.Play.{TakePlays, PutPlays, PendPlays}
 
-abbrev pub held_of : {L V : Type 0} → Store L → V → Held V
-held_of s v = record { guest = s.memory.guest; rings = s.rings.items; table = s.host.table; pending = s.pending.items; service = v }
+abbrev pub shared_of : {L V : Type 0} → Store L → V → Shared V
+shared_of s v = record { guest = s.memory.guest; rings = s.rings.items; table = s.host.table; pending = s.pending.items; service = v }
 
 -- the ring of a queue; one that is not there is closed
 abbrev pub ring_in : List Vring → ℕ → Vring

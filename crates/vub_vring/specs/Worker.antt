@@ -9,7 +9,7 @@ use Rattle.vub_model.specs.declared.cause.VringEpollError.{VringEpollError}
 use Rattle.vub_model.specs.declared.cause.VringEpollError.TheVariants.{EpollCreateFd, RegisterExitEvent, NewEventConsumerNotifier, RegisterVringEnabledEvent, OutOfMemory}
 use Rattle.vub_model.specs.declared.constants.Constants.{Constants}
 use Rattle.vub_model.specs.declared.wiring.Opened.{Opened}
-use Rattle.vub_model.specs.Held.{Held}
+use Rattle.vub_model.specs.Shared.{Shared}
 use Rattle.vub_model.specs.Opening.{listed, opening_members}
 use Rattle.vub_ring.specs.declared.ops.PartsError.{PartsError}
 use Rattle.vub_ring.specs.declared.ops.PartsError.TheVariants as parts_error
@@ -32,12 +32,12 @@ abbrev pub with_worker : HostTable → ℕ → Opened → HostTable
 with_worker table queues w =
     record { objects = table.objects ++ Some (new_event 0) ∷ []; lists = table.lists ++ opening_members queues w ∷ [] }
 
-abbrev pub Opens : {V : Type 0} → ℕ → Opened → Held V → Held V → Type 0
+abbrev pub Opens : {V : Type 0} → ℕ → Opened → Shared V → Shared V → Type 0
 Opens queues w old new =
     HasExit old.table w.exit → (w.list ≡ length old.table.lists) × (w.bell ≡ length old.table.objects) × (new ≡ record old { table = with_worker old.table queues w })
 
 -- the worker of this number, by the device's constants, where what is held is told
-abbrev pub OpensFor : {V : Type 0} → Constants → ℕ → Opened → Option (Held V) → Option (Held V) → Type 0
+abbrev pub OpensFor : {V : Type 0} → Constants → ℕ → Opened → Option (Shared V) → Option (Shared V) → Type 0
 OpensFor constants worker w old new = (w.exit ≡ exit_in constants worker) × Told old new (Opens constants.queues w)
 
 -- The steps to it
@@ -47,21 +47,21 @@ abbrev pub number_of : HostSaid → ℕ
 number_of (Number n) = n
 number_of said = 4294967295
 
-abbrev pub MakesList : {V : Type 0} → ℕ → Held V → Held V → Type 0
+abbrev pub MakesList : {V : Type 0} → ℕ → Shared V → Shared V → Type 0
 MakesList n old new = (n ≡ length old.table.lists) × (new ≡ record old { table = create_list_after old.table })
 
-abbrev pub MakesBell : {V : Type 0} → ℕ → Held V → Held V → Type 0
+abbrev pub MakesBell : {V : Type 0} → ℕ → Shared V → Shared V → Type 0
 MakesBell n old new = (n ≡ length old.table.objects) × (new ≡ record old { table = create_event_after old.table 0x800 })
 
 -- a member is added, unless it is refused
 abbrev pub joined_table : HostTable → ℕ → Member → HostTable
 joined_table table list m = if is_none (add_refusal table list m) then add_after table list m else table
 
-abbrev pub Joins : {V : Type 0} → ℕ → Member → Held V → Held V → Type 0
+abbrev pub Joins : {V : Type 0} → ℕ → Member → Shared V → Shared V → Type 0
 Joins list m old new = new ≡ record old { table = joined_table old.table list m }
 
 -- the exit object, if there is one, under this token
-abbrev pub JoinsExit : {V : Type 0} → ℕ → Option ℕ → ℕ → Held V → Held V → Type 0
+abbrev pub JoinsExit : {V : Type 0} → ℕ → Option ℕ → ℕ → Shared V → Shared V → Type 0
 JoinsExit list None token old new = new ≡ old
 JoinsExit list (Some exit) token old new = Joins list (listed exit token) old new
 
@@ -114,7 +114,7 @@ Leaves queues exit OutOfMemory old new =
 Leaves queues exit e old new = ⊥
 
 -- nothing else changes
-abbrev pub LeavesMade : {V : Type 0} → ℕ → Option ℕ → VringEpollError → Held V → Held V → Type 0
+abbrev pub LeavesMade : {V : Type 0} → ℕ → Option ℕ → VringEpollError → Shared V → Shared V → Type 0
 LeavesMade queues exit e old new = Leaves queues exit e old.table new.table × (new ≡ record old { table = new.table })
 
 -- a step that is not made answers its own error or want of memory, and changes nothing

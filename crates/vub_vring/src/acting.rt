@@ -2,7 +2,7 @@
 ghost use Rattle.std.specs.Prelude.{◌≡◌, [], ◌+◌, nat_le};
 ghost use Rattle.vub_model.specs.World.{acted, stored};
 ghost use Rattle.vub_ring.specs.Events.{table_raised};
-ghost use Rattle.vub_vring.specs.Store.{held_of};
+ghost use Rattle.vub_vring.specs.Store.{shared_of};
 
 use crate::store::Store;
 use vub_event::MemHost;
@@ -41,7 +41,7 @@ impl<L: DirtyLog> Store<L> {
     /// Plays an action of the guest. A store that reaches past the end of its content does nothing; a full counter stays.
     /// `V` is the service's type, which the action leaves alone.
     pub fn act<V>(&mut self, action: &Guest)
-        ensures held { self.old.host.plan.calls.items ≡ [] → (v : V) → held_of self.new v ≡ acted (held_of self.old v) action.now }
+        ensures shared { self.old.host.plan.calls.items ≡ [] → (v : V) → shared_of self.new v ≡ acted (shared_of self.old v) action.now }
         ensures still { self.old.host.plan.calls.items ≡ [] → self.new.host.plan.calls.items ≡ [] }
     {
         match action {

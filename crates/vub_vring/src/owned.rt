@@ -1,5 +1,5 @@
 ghost use Rattle.std.specs.Prelude.{◌≡◌, [], Some};
-ghost use Rattle.vub_vring.specs.Store.{held_of};
+ghost use Rattle.vub_vring.specs.Store.{shared_of};
 
 use crate::ops::{HostOp, HostSaid};
 use crate::parts::Parts;
@@ -24,7 +24,7 @@ impl<'a, L: DirtyLog, V: Service> Parts for OwnedParts<'a, L, V> {
     type Service = V;
 
     ghost state = { λ p. record {
-      held = Some (held_of p.store.now p.service.now);
+      shared = Some (shared_of p.store.now p.service.now);
       faults = p.store.now.host.plan.faults;
       NeverFails = p.store.now.host.plan.calls.items ≡ [];
       loan = (p.store.ghost_name, p.service.ghost_name);

@@ -21,7 +21,7 @@ impl<'a, L: DirtyLog, V: Service> Parts for SilentParts<'a, L, V> {
     type Service = V;
 
     ghost state = { λ p. record {
-      held = None;
+      shared = None;
       faults = p.inner.store.now.host.plan.faults;
       NeverFails = ⊥;
       loan = (0, 0);

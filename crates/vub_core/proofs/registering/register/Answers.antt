@@ -18,15 +18,15 @@ place_kick-requires-clause-bell c =
     ap (λ t. signal_refusal t (c.args.count + c.in-Some-place_of.place.worker) 1) c.claim.ensures.table
     ∙ c.requires.taken.signal c.in-Some.kick c.in-Some-place_of.place.worker c.in-Some.is (let L : List ℕ → Type 0 = λ ms. c.in-Some-place_of.place.worker < length ms in subst L c.as_slice.ensures c.in-Some-place_of.ensures.there)
 
-pub returns-in-None-clause-held : goal.returns-in-None-clause-held
-returns-in-None-clause-held c =
+pub returns-in-None-clause-shared : goal.returns-in-None-clause-shared
+returns-in-None-clause-shared c =
     let k = c.args.constants.now in
     ring_registered (wiring_of k c.args.count) (unserved c.args.store.now) c.args.ring.now c.in-Some.kick c.claim.new.host.table None c.in-Some.is c.claim.ensures.table c.if-not-ring.false c.if-not-ring-2.false
     (place_there k c.args.count c.args.ring.now.queue c.as_slice.result.now None c.as_slice.ensures c.in-None.ensures.place)
 
-pub returns-in_ok-place_kick-in-Some-place_of-clause-held : goal.returns-in_ok-place_kick-in-Some-place_of-clause-held
-returns-in_ok-place_kick-in-Some-place_of-clause-held c =
+pub returns-in_ok-place_kick-in-Some-place_of-clause-shared : goal.returns-in_ok-place_kick-in-Some-place_of-clause-shared
+returns-in_ok-place_kick-in-Some-place_of-clause-shared c =
     let k = c.args.constants.now in
-    c.in_ok-place_kick-in-Some-place_of.ensures.held
+    c.in_ok-place_kick-in-Some-place_of.ensures.shared
     ∙ ring_registered (wiring_of k c.args.count) (unserved c.args.store.now) c.args.ring.now c.in-Some.kick c.claim.new.host.table (Some c.in-Some-place_of.place) c.in-Some.is c.claim.ensures.table c.if-not-ring.false c.if-not-ring-2.false
     (place_there k c.args.count c.args.ring.now.queue c.as_slice.result.now (Some c.in-Some-place_of.place) c.as_slice.ensures c.in-Some-place_of.ensures.place)

@@ -7,7 +7,7 @@ use Rattle.vub_model.specs.World.{takes_by}
 use Rattle.vub_loop.specs.declared.finished.Finished.{Finished}
 use Rattle.vub_loop.specs.Finished.{finished_by}
 use Rattle.vub_loop.specs.Handler.{phase_of}
-use Rattle.vub_vring.specs.Store.{held_of}
+use Rattle.vub_vring.specs.Store.{shared_of}
 use Rattle.vub_core.specs.Machine.{world_of}
 use Rattle.vub_core.specs.Places.{IsFootprint}
 use Rattle.vub_core.specs.Recorded.{IsWritten}
@@ -42,7 +42,7 @@ returns-clause-turn g c w guest are =
     let took = c.in_ok-record.ensures.takes ∙ ap (λ p. c.args.machine.now.records.takes.items ++ takes_by c.in_ok-label.label p) ended in
     let W : Phase → Type 0 = λ p. IsWritten c.play_worker.new.store.memory.guest.regions c.next_footprint-footprint.result c.in_ok-label.label p c.take_finished-finished.result c.args.machine.now.records.written c.record.new.self.written in
     machine-turned (meaning g.V.Service.reply_of g.V.Service.after) (world_of w guest c.args.machine.now c.args.service.now) c.args.worker c.args.machine.now.workers.items c.index_mut-handler.result.now c.take_finished-finished.new.self
-    (held_of c.play_worker.new.store c.play_worker.new.service) now c.next_footprint-footprint.result c.take_finished-finished.result _ _ _ c.in_ok-label.label
+    (shared_of c.play_worker.new.store c.play_worker.new.service) now c.next_footprint-footprint.result c.take_finished-finished.result _ _ _ c.in_ok-label.label
     refl within c.index_mut-handler.ensures.value
     (c.in_ok-label.ensures.row w c.args.worker own)
     foot

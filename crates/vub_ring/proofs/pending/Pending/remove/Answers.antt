@@ -1,5 +1,5 @@
 use Rattle.std.proofs.Common.{rules, not, nat_eq, ◌∙◌, ap}
-use Rattle.vub_model.specs.Held.{without_number}
+use Rattle.vub_model.specs.Shared.{without_number}
 use Rattle.std.proofs.lemmas.Fn.{filter_same}
 use Rattle.vub_ring.proofs.pending.Pending.remove.Goals as goal
 
