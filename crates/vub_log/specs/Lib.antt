@@ -1,3 +1,5 @@
+pub mod PageBits
 pub mod Plain
 pub mod Since
+pub mod Tells
 pub mod View
