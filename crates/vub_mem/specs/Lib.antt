@@ -9,6 +9,7 @@ pub mod Marks
 pub mod Memory
 pub mod Place
 pub mod PlaceAt
+pub mod ReadBack
 pub mod Sound
 pub mod Table
 pub mod Track
