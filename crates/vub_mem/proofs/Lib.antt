@@ -6,5 +6,6 @@ pub mod Mapped
 pub mod MarkLaws
 pub mod Pages
 pub mod Ranges
+pub mod ReadsBack
 pub mod Tables
 pub mod Writes

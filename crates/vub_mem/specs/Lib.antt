@@ -11,6 +11,7 @@ pub mod Memory
 pub mod NoPage
 pub mod Place
 pub mod PlaceAt
+pub mod ReadBack
 pub mod Sound
 pub mod Table
 pub mod Track

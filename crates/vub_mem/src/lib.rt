@@ -15,6 +15,7 @@ mod memory;
 mod no_bitmap;
 mod place;
 mod places;
+mod read_back;
 mod region;
 mod table;
 mod track;
@@ -31,6 +32,7 @@ pub use laws::{
 pub use mapping::{Mapping, va_to_gpa};
 pub use memory::GuestMemory;
 pub use place::Place;
+pub use read_back::writes_are_read_back;
 pub use region::{AtomicBitmapMmap, Region};
 pub use vub_base::{Bytes, OutOfMemory};
 

@@ -1,4 +1,6 @@
 pub mod Chains
+pub mod HeadChains
+pub mod IndexBack
 pub mod Left
 pub mod Numbers
 pub mod Places

@@ -1,5 +1,5 @@
 -- A ring in a memory gives one answer.
-use Rattle.std.proofs.Common.{◌≡◌, ℕ, ◌⊎◌, inl, inr, List, ◌+◌, ◌==◌, length, Bool, true, false, not, cond, nat_lt, true≢false, refl, sym, ap, subst, ◌∙◌}
+use Rattle.std.proofs.Common.{◌≡◌, ℕ, ◌⊎◌, inl, inr, ◌+◌, ◌==◌, Bool, true, false, not, cond, nat_lt, true≢false, refl, sym, ap, subst, ◌∙◌}
 use Rattle.vub_mem.specs.Memory.{Guest}
 use Rattle.vub_queue.specs.Chain.{IsChain, chain_of}
 use Rattle.std.specs.Int.{w16}
@@ -13,7 +13,6 @@ use Rattle.vub_queue.proofs.Chains.{links_one, chain_whole, fails_one}
 use Rattle.vub_queue.specs.declared.chain.Chain.{Chain}
 use Rattle.vub_queue.specs.declared.damage.Damage.{Damage}
 use Rattle.vub_queue.specs.declared.damage.Damage.TheVariants.{TooLong, RingOutside, IndexAhead}
-use Rattle.vub_queue.specs.declared.descriptor.Descriptor.{Descriptor}
 use Rattle.vub_queue.specs.declared.head.Head.{Head}
 use Rattle.vub_queue.specs.declared.head.Head.TheVariants.{Empty, At, Broken}
 use Rattle.vub_queue.specs.declared.took.Took.{Took}
@@ -58,13 +57,6 @@ one_damage g r a b (inr p) (inr q) =
 empty_or_damage : (g : Guest) (r : Ring) (d : Damage) → head_of g r ≡ Empty → IsDamaged g r d → ⊥
 empty_or_damage g r d p (inl e) = broken_empty (head_of g r) d p e
 empty_or_damage g r d p (inr e) = at_empty (head_of g r) e.0 p e.1
-
--- all chains of a head have one length
-pub one_cost : (g : Guest) (r : Ring) (h : ℕ) (ds : List Descriptor) (c : Chain) (old new : ℕ) → IsChain g (table_of r) h ds → c ≡ chain_of g h ds → new ≡ old + length ds → (es : List Descriptor) → IsChain g (table_of r) c.head es → new ≡ old + length es
-one_cost g r h ds c old new chain made cost es other =
-    let head : c.head ≡ h = ap (λ c. c.head) made in
-    let moved : IsChain g (table_of r) h es = subst (λ n. IsChain g (table_of r) n es) head other in
-    cost ∙ ap (λ l. old + length l) (links_one g (table_of r) h ds es chain.links moved.links)
 
 not_published : (e c : Bool) → ((e ≡ false) ⊎ (c ≡ true)) → e ≡ true → c ≡ false → ⊥
 not_published e c (inl off) on none = true≢false (sym on ∙ off)

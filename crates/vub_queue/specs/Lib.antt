@@ -1,6 +1,8 @@
 pub mod Chain
 pub mod EntryNumber
 pub mod Function
+pub mod HeadChain
+pub mod IndexBack
 pub mod Laws
 pub mod Layout
 pub mod Notification

@@ -8,6 +8,8 @@ mod damage;
 mod descriptor;
 mod error;
 mod head;
+mod head_chain;
+mod index_back;
 mod indexes;
 mod laws;
 mod notification;
@@ -24,6 +26,8 @@ pub use addresses::Addresses;
 pub use chain::Chain;
 pub use damage::Damage;
 pub use error::{QueueError, RingPart};
+pub use head_chain::chain_at;
+pub use index_back::put_index_is_read_back;
 pub use laws::{
     chain_fails_no_test, empty_where_none_is_left, entry_stands_in_its_slot, head_has_one_chain,
     put_changes_only_its_places, take_changes_nothing, take_changes_only_avail_event,

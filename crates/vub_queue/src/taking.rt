@@ -9,11 +9,11 @@ ghost use Rattle.vub_queue.specs.declared.took.Took.{Took};
 use crate::chain::Chain;
 use crate::descriptor::Descriptor;
 use crate::head::{Head, next_head};
+use crate::head_chain::chain_at;
 use crate::publishing::finish;
 use crate::queue::Queue;
 use crate::segment::{Segment, Segments};
 use crate::took::Took;
-use crate::walk::{Walk, read_chain};
 use std::alloc::Global;
 use std::sync::ledger::Ledger;
 use vub_base::{Bytes, OutOfMemory, Steps};
@@ -85,7 +85,7 @@ fn room(segments: &[Segment]) -> u32
 }
 
 /// The entry that the descriptors make.
-fn make_chain<L: DirtyLog>(
+pub(crate) fn make_chain<L: DirtyLog>(
     alloc: Global,
     memory: &GuestMemory<L>,
     head: u16,
@@ -114,6 +114,7 @@ fn look<L: DirtyLog, K: Ledger>(
     memory: &GuestMemory<L>,
     steps: &mut Steps<K>,
 ) -> Result<Took, OutOfMemory>
+    requires { IsSome queue.now.addresses }
     ensures took { IfOk result (Looks memory.now.guest queue.now) }
     ensures cost { IfOk result (Costs memory.now.guest queue.now steps.old steps.new) }
     ensures room { IfOk result HasRoom }
@@ -122,16 +123,7 @@ fn look<L: DirtyLog, K: Ledger>(
     match next_head(memory, queue) {
         Head::Empty => Ok(Took::None),
         Head::Broken(damage) => Ok(Took::Damaged(damage)),
-        Head::At(head) => {
-            let at = queue.placed();
-            match read_chain(alloc, memory, at.desc, queue.size(), head, steps)? {
-                Walk::Failed(damage) => Ok(Took::Damaged(damage)),
-                Walk::Whole(descriptors) => {
-                    let chain = make_chain(alloc, memory, head, descriptors.as_slice())?;
-                    Ok(Took::Entry(chain))
-                }
-            }
-        }
+        Head::At(head) => chain_at(alloc, queue, memory, head, steps),
     }
 }
 
