@@ -1,9 +1,10 @@
-ghost use Rattle.std.specs.Prelude.{◌≡◌, ◌↔◌, ◌<◌, [], ◌∷◌, ◌++◌, length, slice_get, slice_set, IsTrue, OnOk, OnErr};
+ghost use Rattle.std.specs.Prelude.{◌≡◌, ◌↔◌, ◌<◌, [], ◌∷◌, ◌++◌, length, slice_get, slice_set, IsTrue, IfOk, OnOk, OnErr};
+ghost use Rattle.std.specs.Slice.Iter.{iter_rest};
 
 use crate::memory::OutOfMemory;
 use std::alloc::Global;
 use std::marker::Model;
-use std::mem;
+use std::{mem, slice};
 
 /// A `Vec` that contracts see as the list of its elements, so that a struct or an enum with such a field can be
 /// compared with the value of a definition. It is made from a `Vec`, and gives it back, without taking memory.
@@ -55,6 +56,13 @@ impl<T> Listed<T> {
         self.elements.as_slice()
     }
 
+    /// The elements, lent one after the other.
+    pub fn iter(&self) -> slice::Iter<'_, T>
+        ensures { iter_rest result ≡ self.now }
+    {
+        self.elements.iter()
+    }
+
     /// How many elements there are.
     pub fn len(&self) -> usize
         ensures { result ≡ length self.now }
@@ -90,5 +98,27 @@ impl<T: Drop> Listed<T> {
     {
         self.elements.push(element)?;
         Ok(())
+    }
+}
+
+impl<T: Copy> Listed<T> {
+    /// A copy of these elements.
+    ///
+    /// # Errors
+    /// Want of memory.
+    pub fn from_slice(alloc: Global, elements: &[T]) -> Result<Listed<T>, OutOfMemory>
+        ensures { IfOk result (λ list. list ≡ elements.now) }
+    {
+        let elements = Vec::from_slice(alloc, elements)?;
+        Ok(Listed { elements })
+    }
+}
+
+impl<T> From<Vec<T>> for Listed<T> {
+    ghost from_gives = { λ elements list. list ≡ elements.items };
+
+    /// The elements of this vector, whose memory is kept.
+    fn from(elements: Vec<T>) -> Listed<T> {
+        Listed::from_vec(elements)
     }
 }

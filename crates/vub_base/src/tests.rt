@@ -34,7 +34,10 @@ fn a_list_keeps_its_elements_in_order(rt: HostRuntime) -> Result<(), Fail> {
     assert_eq!(rt; list.len(), 2);
     assert_eq!(rt; list.replace(0, 9), 7);
     assert_eq!(rt; list.as_slice(), [9, 8].as_slice());
-    let again = Listed::from_vec(list.into_vec());
+    let again = Listed::from(list.into_vec());
     assert_eq!(rt; again.as_slice(), [9, 8].as_slice());
+    let copy = Listed::from_slice(rt.alloc(), again.as_slice())?;
+    assert_eq!(rt; copy.iter().next(), Some(&9));
+    assert_eq!(rt; copy.iter().count(), 2);
     Ok(())
 }
