@@ -20,8 +20,8 @@ use Rattle.vub_model.specs.World.{World}
 abbrev pub Counted : {V : Type 0} → Shared V → Type 0
 Counted h = (queue : ℕ) → IsCounted (ring_at h queue)
 
--- Each take gave the entry that was next in its ring, as its slot and its chain say in the memory of its turn, from a ring
--- that was ready and enabled and had its addresses.
+-- Each take gave the entry that was next in its ring, as its slot and its chain say in the memory of its turn, from a
+-- ring that was ready and enabled and had its addresses.
 pub record ReadsChains {V : Type 0} (m : Meaning V) (schedule : List ℕ) (plays : List Play) (w : World V) : Type 0 where
   pub chains : EachTurn TakesItsChain m schedule plays w
   pub live : TakesAreLive m schedule plays w
@@ -37,12 +37,12 @@ pub record RingsBells {V : Type 0} (m : Meaning V) (schedule : List ℕ) (plays 
   pub first : AllRung w
   pub later : EachTurn (λ old p l new. AllRung new) m schedule plays w
 
--- The headline. In a run of the set-up from its opening to this world each queue took its entries once and in order from
--- each base, and used each with the service's reply to the bytes read at taking, but for at most one in flight or held. An
--- entry's number is its place in the ring, the first base is the given one, what was taken is what its chain holds in the
--- memory of its turn, and a reply stands in the memory after its turn; a worker wrote no byte but those of its step. Each
--- queue is served by the first worker whose mask has its bit, a worker with something pending hears of it, and at rest a
--- calm running queue has no entry left.
+-- The headline. In a run of the set-up from its opening to this world each queue took its entries once and in order
+-- from each base, and used each with the service's reply to the bytes read at taking, but for at most one in flight or
+-- held. An entry's number is its place in the ring, the first base is the given one, what was taken is what its chain
+-- holds in the memory of its turn, and a reply stands in the memory after its turn; a worker wrote no byte but those of
+-- its step. Each queue is served by the first worker whose mask has its bit, a worker with something pending hears of
+-- it, and at rest a calm running queue has no entry left.
 pub record IsFaithful {V : Type 0} (m : Meaning V) (constants : Constants) (setup : Setup) (v : V)
     (schedule : List ℕ) (plays : List Play) (closing : World V) : Type 0 where
   pub served : IsServed m schedule plays (opening constants setup v) closing

@@ -1,7 +1,8 @@
 -- The state in which a run of a set-up begins. A given ring that is ready and enabled, with a kick and a worker, is
 -- registered: its kick is claimed and joins its worker's interest list, the queue is pending, and the bell is rung. The
 -- kick of any other given ring is claimed alone.
-use Rattle.std.specs.Prelude.{ℕ, ◌+◌, ◌%◌, ◌^◌, Bool, false, ◌&&◌, ◌==◌, if◌then◌else◌, List, [], ◌∷◌, ◌++◌, length, map, replicate, slice_index_or, Option, Some, None, is_some, find, fold}
+use Rattle.std.specs.Prelude.{ℕ, ◌+◌, ◌%◌, ◌^◌, Bool, false, ◌&&◌, ◌==◌, if◌then◌else◌, List, [], ◌∷◌, ◌++◌, length}
+use Rattle.std.specs.Prelude.{map, replicate, slice_index_or, Option, Some, None, is_some, find, fold}
 use Rattle.std.specs.List.{range_with_len}
 use Rattle.vub_queue.specs.Ring.{Ring}
 use Rattle.vub_queue.specs.declared.addresses.Addresses.{Addresses}
@@ -40,7 +41,8 @@ flags_of (object.Event flags) = flags
 flags_of (object.Content bytes) = 0
 
 abbrev pub opening_events : List Object → List ℕ → List (Option Event)
-opening_events objects masks = map (λ o. Some (new_event (flags_of o))) objects ++ map (λ mask. Some (new_event 0)) masks
+opening_events objects masks =
+    map (λ o. Some (new_event (flags_of o))) objects ++ map (λ mask. Some (new_event 0)) masks
 
 -- Workers: worker w has interest list w, and the bell after the w before it
 
@@ -49,7 +51,14 @@ opened_worker count exits w = record { worker = w; list = w; bell = count + w; e
 
 abbrev pub wiring_of : Constants → ℕ → Wiring
 wiring_of constants count =
-    record { queues = constants.queues; max = constants.max; features = constants.features; protocol = constants.protocol; masks = constants.masks; opened = map (λ w. opened_worker count constants.exits w) (range_with_len 0 (length constants.masks)) }
+    record {
+      queues = constants.queues;
+      max = constants.max;
+      features = constants.features;
+      protocol = constants.protocol;
+      masks = constants.masks;
+      opened = map (λ w. opened_worker count constants.exits w) (range_with_len 0 (length constants.masks));
+    }
 
 -- IN, of the events that a member may ask for (epoll(7))
 abbrev pub listed : ℕ → ℕ → Member
@@ -70,10 +79,31 @@ addresses_of None = None
 addresses_of (Some info) = Some (record { desc = info.desc; avail = info.avail; used = info.used })
 
 abbrev pub given_queue : ℕ → GivenRing → Ring
-given_queue max r = record { max = max; size = r.size; ready = r.ready; event_idx = false; addresses = addresses_of r.info; next_avail = r.base % 2 ^ 16; next_used = r.next_used; told = r.next_used }
+given_queue max r =
+    record {
+      max = max;
+      size = r.size;
+      ready = r.ready;
+      event_idx = false;
+      addresses = addresses_of r.info;
+      next_avail = r.base % 2 ^ 16;
+      next_used = r.next_used;
+      told = r.next_used;
+    }
 
 abbrev pub given_vring : ℕ → GivenRing → Vring
-given_vring max r = record { queue = given_queue max r; kick = r.kick; call = r.call; err = None; enabled = r.enabled; flight = flight.None; epoch = 0; base = r.base; taken = 0 }
+given_vring max r =
+    record {
+      queue = given_queue max r;
+      kick = r.kick;
+      call = r.call;
+      err = None;
+      enabled = r.enabled;
+      flight = flight.None;
+      epoch = 0;
+      base = r.base;
+      taken = 0;
+    }
 
 -- a ring of which nothing is given has the greatest size
 abbrev pub new_vring : ℕ → Vring
@@ -98,7 +128,8 @@ claimed h kick queue = record h { table = with_event h.table kick (claimed_event
 
 -- the kick joins a worker's interest list
 abbrev pub joined : {V : Type 0} → Shared V → ℕ → ℕ → ℕ → Shared V
-joined h list kick number = record h { table = with_members h.table list (with_member (members_at h.table list) (listed kick number)) }
+joined h list kick number =
+    record h { table = with_members h.table list (with_member (members_at h.table list) (listed kick number)) }
 
 abbrev pub placed : {V : Type 0} → Wiring → Shared V → ℕ → Option Place → Shared V
 placed g h kick None = h
@@ -124,16 +155,26 @@ unwritten (object.Content bytes) = replicate (length bytes) false
 
 abbrev pub opening_table : Constants → List Object → HostTable
 opening_table constants objects =
-    record { objects = opening_events objects constants.masks; lists = map (λ w. opening_members constants.queues w) (wiring_of constants (length objects)).opened }
+    record {
+      objects = opening_events objects constants.masks;
+      lists = map (λ w. opening_members constants.queues w) (wiring_of constants (length objects)).opened;
+    }
 
 abbrev pub before_rings : {V : Type 0} → Constants → Setup → V → Shared V
 before_rings constants setup service =
-    record { guest = record { regions = map given_region setup.regions; contents = contents_from 0 setup.objects }; rings = opening_rings constants setup.rings; table = opening_table constants setup.objects; pending = map (λ mask. []) constants.masks; service = service }
+    record {
+      guest = record { regions = map given_region setup.regions; contents = contents_from 0 setup.objects };
+      rings = opening_rings constants setup.rings;
+      table = opening_table constants setup.objects;
+      pending = map (λ mask. []) constants.masks;
+      service = service;
+    }
 
 -- what is held when all given rings are registered
 abbrev pub opening_held : {V : Type 0} → Constants → Setup → V → Shared V
 opening_held constants setup service =
-    fold (λ h r. registered (wiring_of constants (length setup.objects)) h r) (before_rings constants setup service) setup.rings
+    fold (λ h r. registered (wiring_of constants (length setup.objects)) h r) (before_rings constants setup service)
+    setup.rings
 
 abbrev pub mapping_of : GivenRegion → Mapping
 mapping_of r = record { user = r.user; len = r.len; start = r.start }
@@ -146,7 +187,12 @@ requests_of setup = []
 abbrev pub new_control : Setup → Control
 new_control setup =
     let s : Session = record { owned = false; features = 0; protocol = 0; mappings = map mapping_of setup.regions } in
-    record { session = s; plan = record { steps = []; reply = says answer.Ok; session = s }; requests = requests_of setup; answers = [] }
+    record {
+      session = s;
+      plan = record { steps = []; reply = says answer.Ok; session = s };
+      requests = requests_of setup;
+      answers = [];
+    }
 
 -- the first request begins
 abbrev pub opening_control : {V : Type 0} → Constants → Setup → V → Control
@@ -155,7 +201,16 @@ opening_control constants setup service =
 
 unfoldable pub opening : {V : Type 0} → Constants → Setup → V → World V
 opening constants setup service =
-    record { shared = opening_held constants setup service; wiring = wiring_of constants (length setup.objects); phases = map (λ mask. Idle) constants.masks; guest = setup.guest; control = opening_control constants setup service; takes = []; uses = []; written = map unwritten setup.objects }
+    record {
+      shared = opening_held constants setup service;
+      wiring = wiring_of constants (length setup.objects);
+      phases = map (λ mask. Idle) constants.masks;
+      guest = setup.guest;
+      control = opening_control constants setup service;
+      takes = [];
+      uses = [];
+      written = map unwritten setup.objects;
+    }
 
 -- the ring is registered where it is ready and enabled, and has a kick and a worker
 abbrev pub is_registered_ring : Wiring → Option GivenRing → Bool

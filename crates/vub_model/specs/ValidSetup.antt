@@ -1,5 +1,7 @@
 -- Which test a set-up fails first. A set-up that fails none is valid.
-use Rattle.std.specs.Prelude.{◌≡◌, ℕ, ◌+◌, ◌%◌, Bool, true, false, not, ◌&&◌, ◌==◌, nat_le, nat_lt, if◌then◌else◌, List, [], ◌∷◌, ◌++◌, length, take, map, Option, Some, None, is_some, option_map, position, slice_get}
+use Rattle.std.specs.Prelude.{◌≡◌, ℕ, ◌+◌, ◌%◌, Bool, true, false, not, ◌&&◌, ◌==◌, nat_le, nat_lt, if◌then◌else◌, List}
+use Rattle.std.specs.Prelude.{[], ◌∷◌, ◌++◌, length, take, map, Option, Some, None, is_some, option_map, position}
+use Rattle.std.specs.Prelude.{slice_get}
 use Rattle.std.specs.List.{list_all}
 use Rattle.std.specs.Option.{option_map_or}
 use Rattle.std.specs.Int.{is_power_of_two}
@@ -87,7 +89,9 @@ region_fault objects regions =
 unfoldable pub given_table_fault : List Object → List GivenRegion → Option SetupFault
 given_table_fault objects [] = None
 given_table_fault objects (r ∷ rs) =
-    if is_some (table_fault (contents_from 0 objects) (map given_region (r ∷ rs))) then Some (setup_fault.Region 0) else None
+    if is_some (table_fault (contents_from 0 objects) (map given_region (r ∷ rs)))
+    then Some (setup_fault.Region 0)
+    else None
 
 -- the addresses have their alignment (virtio 1.2, section 2.7)
 abbrev pub is_aligned : Option Info → Bool
@@ -97,7 +101,8 @@ is_aligned (Some info) = (info.desc % 16 == 0) && (info.avail % 2 == 0) && (info
 -- whether the event is no kick of these rings and no exit object
 unfoldable pub is_free : Constants → List GivenRing → ℕ → Bool
 is_free constants earlier number =
-    list_all (λ ring. not (is_object ring.kick number)) earlier && list_all (λ exit. not (is_object exit number)) constants.exits
+    list_all (λ ring. not (is_object ring.kick number)) earlier
+    && list_all (λ exit. not (is_object exit number)) constants.exits
 
 abbrev pub is_free_or_none : Constants → List GivenRing → Option ℕ → Bool
 is_free_or_none constants earlier None = true
