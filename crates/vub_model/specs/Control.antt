@@ -1,6 +1,7 @@
 -- Control's small steps: which may be played, what each makes of what is held, and what is left of the plan after it.
 -- A step names only events and lists that are there, so no call of the host is refused for want of one.
-use Rattle.std.specs.Prelude.{◌≡◌, ℕ, ◌+◌, Bool, true, false, ◌||◌, not, if◌then◌else◌, List, [], ◌∷◌, ◌++◌, Option, Some, None, is_some, Result, Ok, Err}
+use Rattle.std.specs.Prelude.{◌≡◌, ℕ, ◌+◌, Bool, true, false, ◌||◌, not, if◌then◌else◌, List, [], ◌∷◌, ◌++◌, Option}
+use Rattle.std.specs.Prelude.{Some, None, is_some, Result, Ok, Err}
 use Rattle.std.specs.Int.{w16}
 use Rattle.vub_mem.specs.Memory.{Guest}
 use Rattle.vub_mem.specs.Place.{covers, number_at}
@@ -8,7 +9,8 @@ use Rattle.vub_mem.specs.Table as table
 use Rattle.vub_mem.specs.declared.errors.MemError.{MemError}
 use Rattle.vub_mem.specs.declared.region.Region.{Region}
 use Rattle.vub_event.specs.HostTable.{HostTable, event_at, member_at, is_listed}
-use Rattle.vub_event.specs.HostCalls.{may_claim, has_token_above, claim_after, release_after, add_after, delete_after, listener}
+use Rattle.vub_event.specs.HostCalls.{may_claim, has_token_above, claim_after, release_after, add_after, delete_after}
+use Rattle.vub_event.specs.HostCalls.{listener}
 use Rattle.vub_proto.specs.declared.answer.Answer.{Answer}
 use Rattle.vub_proto.specs.declared.answer.Answer.TheVariants as answer
 use Rattle.vub_proto.specs.declared.answer.Cause.TheVariants as cause
@@ -22,7 +24,9 @@ use Rattle.vub_proto.specs.declared.request.Request.{Request}
 use Rattle.vub_model.specs.declared.ring_op.RingOp.TheVariants as op
 use Rattle.vub_model.specs.declared.session.Session.{Session}
 use Rattle.vub_model.specs.declared.small.Small.{Small}
-use Rattle.vub_model.specs.declared.small.Small.TheVariants.{Claim, Release, Add, Delete, Listen, Unlisten, Bell, Remove, Insert, Set, Info, Table, Device, Answer as Answering}
+use Rattle.vub_model.specs.declared.small.Small.TheVariants.{Claim, Release, Add, Delete, Listen, Unlisten, Bell}
+use Rattle.vub_model.specs.declared.small.Small.TheVariants.{Remove, Insert, Set, Info, Table, Device}
+use Rattle.vub_model.specs.declared.small.Small.TheVariants.{Answer as Answering}
 use Rattle.vub_model.specs.declared.small.TableOp.{TableOp}
 use Rattle.vub_model.specs.declared.small.TableOp.TheVariants as table_op
 use Rattle.vub_model.specs.RingRecord.{waits, ring_after, is_in_flight}
@@ -79,22 +83,43 @@ regions_unless None new old = new
 regions_unless (Some e) new old = old
 
 abbrev pub small_after : {V : Type 0} → Wiring → Shared V → Small → Shared V
-small_after g h (Claim object queue) = record h { table = if can_claim h.table object queue then claim_after h.table object queue else h.table }
+small_after g h (Claim object queue) =
+    record h { table = if can_claim h.table object queue then claim_after h.table object queue else h.table }
 small_after g h (Release object) = record h { table = release_after h.table object }
 small_after g h (Add worker object token) =
-    record h { table = if can_add h.table (opened_at g worker).list object then add_after h.table (opened_at g worker).list (listener object token) else h.table }
+    record h {
+      table =
+          if can_add h.table (opened_at g worker).list object
+          then add_after h.table (opened_at g worker).list (listener object token)
+          else h.table;
+    }
 small_after g h (Delete worker object) = record h { table = delete_after h.table (opened_at g worker).list object }
 small_after g h (Listen worker object token) =
-    record h { table = if can_listen h.table (opened_at g worker).list object then add_after h.table (opened_at g worker).list (listener object token) else h.table }
+    record h {
+      table =
+          if can_listen h.table (opened_at g worker).list object
+          then add_after h.table (opened_at g worker).list (listener object token)
+          else h.table;
+    }
 small_after g h (Unlisten worker object above) =
-    record h { table = if can_unlisten h.table (opened_at g worker).list object above then delete_after h.table (opened_at g worker).list object else h.table }
+    record h {
+      table =
+          if can_unlisten h.table (opened_at g worker).list object above
+          then delete_after h.table (opened_at g worker).list object
+          else h.table;
+    }
 small_after g h (Bell object) = raised h object
 small_after g h (Remove worker number) = removed h worker number
 small_after g h (Insert worker number) = inserted h worker number
 small_after g h (Set queue o) = with_ring h queue (ring_after (ring_at h queue) o)
-small_after g h (Info queue desc avail used) = with_ring h queue (ring_after (ring_at h queue) (op.SetInfo desc avail used (next_used_at h.guest used)))
+small_after g h (Info queue desc avail used) =
+    with_ring h queue (ring_after (ring_at h queue) (op.SetInfo desc avail used (next_used_at h.guest used)))
 small_after g h (Table change) =
-    record h { guest = record h.guest { regions = regions_unless (table_refusal h.guest change) (regions_after h.guest.regions change) h.guest.regions } }
+    record h {
+      guest = record h.guest {
+        regions = regions_unless (table_refusal h.guest change) (regions_after h.guest.regions change) h.guest.regions;
+      };
+    }
 small_after g h s = h
 
 -- Which step may be played
@@ -171,13 +196,18 @@ after_refusal (Some e) p = instead (answer.Failed (error.ReqHandlerError (cause.
 
 -- A refusal is answered alone, and an Add that finds its event there drops the next two steps.
 abbrev pub rest_after : {V : Type 0} → Wiring → Shared V → Small → DeviceSaid → Plan → Plan
-rest_after g h (Claim object queue) said p = if can_claim h.table object queue then p else instead (answer.Failed error.InvalidParam) p
+rest_after g h (Claim object queue) said p =
+    if can_claim h.table object queue then p else instead (answer.Failed error.InvalidParam) p
 rest_after g h (Add worker object token) said p =
     if can_add h.table (opened_at g worker).list object then p else record p { steps = drop_two p.steps }
 rest_after g h (Listen worker object token) said p =
-    if can_listen h.table (opened_at g worker).list object then p else instead (answer.Listener listener_error.AlreadyExists) p
+    if can_listen h.table (opened_at g worker).list object
+    then p
+    else instead (answer.Listener listener_error.AlreadyExists) p
 rest_after g h (Unlisten worker object above) said p =
-    if can_unlisten h.table (opened_at g worker).list object above then p else instead (answer.Listener listener_error.NotFound) p
+    if can_unlisten h.table (opened_at g worker).list object above
+    then p
+    else instead (answer.Listener listener_error.NotFound) p
 rest_after g h (Info queue desc avail used) said p =
     if used_index_covers h.guest used then p else told (answer.Failed error.BackendInternalError) p
 rest_after g h (Table change) said p = after_refusal (table_refusal h.guest change) p

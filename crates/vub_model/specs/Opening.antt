@@ -1,7 +1,8 @@
 -- The state in which a run of a set-up begins. A given ring that is ready and enabled, with a kick and a worker, is
 -- registered: its kick is claimed and joins its worker's interest list, the queue is pending, and the bell is rung. The
 -- kick of any other given ring is claimed alone.
-use Rattle.std.specs.Prelude.{ℕ, ◌+◌, Bool, false, ◌&&◌, ◌==◌, if◌then◌else◌, List, [], ◌∷◌, ◌++◌, length, map, replicate, slice_index_or, Option, Some, None, find, fold}
+use Rattle.std.specs.Prelude.{ℕ, ◌+◌, ◌%◌, ◌^◌, Bool, false, ◌&&◌, ◌==◌, if◌then◌else◌, List, [], ◌∷◌, ◌++◌, length}
+use Rattle.std.specs.Prelude.{map, replicate, slice_index_or, Option, Some, None, is_some, find, fold}
 use Rattle.std.specs.List.{range_with_len}
 use Rattle.vub_queue.specs.Ring.{Ring}
 use Rattle.vub_queue.specs.declared.addresses.Addresses.{Addresses}
@@ -25,6 +26,7 @@ use Rattle.vub_model.specs.ValidSetup.{contents_from, given_region}
 use Rattle.vub_model.specs.Shared.{Shared, raised, inserted}
 use Rattle.vub_mem.specs.declared.mapping.Mapping.{Mapping}
 use Rattle.vub_proto.specs.declared.answer.Answer.TheVariants as answer
+use Rattle.vub_proto.specs.declared.request.Request.{Request}
 use Rattle.vub_model.specs.declared.session.Session.{Session}
 use Rattle.vub_model.specs.declared.setup.GivenRegion.{GivenRegion}
 use Rattle.vub_model.specs.Plans.{says}
@@ -39,7 +41,8 @@ flags_of (object.Event flags) = flags
 flags_of (object.Content bytes) = 0
 
 abbrev pub opening_events : List Object → List ℕ → List (Option Event)
-opening_events objects masks = map (λ o. Some (new_event (flags_of o))) objects ++ map (λ mask. Some (new_event 0)) masks
+opening_events objects masks =
+    map (λ o. Some (new_event (flags_of o))) objects ++ map (λ mask. Some (new_event 0)) masks
 
 -- Workers: worker w has interest list w, and the bell after the w before it
 
@@ -48,7 +51,14 @@ opened_worker count exits w = record { worker = w; list = w; bell = count + w; e
 
 abbrev pub wiring_of : Constants → ℕ → Wiring
 wiring_of constants count =
-    record { queues = constants.queues; max = constants.max; features = constants.features; protocol = constants.protocol; masks = constants.masks; opened = map (λ w. opened_worker count constants.exits w) (range_with_len 0 (length constants.masks)) }
+    record {
+      queues = constants.queues;
+      max = constants.max;
+      features = constants.features;
+      protocol = constants.protocol;
+      masks = constants.masks;
+      opened = map (λ w. opened_worker count constants.exits w) (range_with_len 0 (length constants.masks));
+    }
 
 -- IN, of the events that a member may ask for (epoll(7))
 abbrev pub listed : ℕ → ℕ → Member
@@ -69,10 +79,31 @@ addresses_of None = None
 addresses_of (Some info) = Some (record { desc = info.desc; avail = info.avail; used = info.used })
 
 abbrev pub given_queue : ℕ → GivenRing → Ring
-given_queue max r = record { max = max; size = r.size; ready = r.ready; event_idx = false; addresses = addresses_of r.info; next_avail = r.base; next_used = r.next_used; told = r.next_used }
+given_queue max r =
+    record {
+      max = max;
+      size = r.size;
+      ready = r.ready;
+      event_idx = false;
+      addresses = addresses_of r.info;
+      next_avail = r.base % 2 ^ 16;
+      next_used = r.next_used;
+      told = r.next_used;
+    }
 
 abbrev pub given_vring : ℕ → GivenRing → Vring
-given_vring max r = record { queue = given_queue max r; kick = r.kick; call = r.call; err = None; enabled = r.enabled; flight = flight.None; epoch = 0; base = r.base; taken = 0 }
+given_vring max r =
+    record {
+      queue = given_queue max r;
+      kick = r.kick;
+      call = r.call;
+      err = None;
+      enabled = r.enabled;
+      flight = flight.None;
+      epoch = 0;
+      base = r.base;
+      taken = 0;
+    }
 
 -- a ring of which nothing is given has the greatest size
 abbrev pub new_vring : ℕ → Vring
@@ -97,7 +128,8 @@ claimed h kick queue = record h { table = with_event h.table kick (claimed_event
 
 -- the kick joins a worker's interest list
 abbrev pub joined : {V : Type 0} → Shared V → ℕ → ℕ → ℕ → Shared V
-joined h list kick number = record h { table = with_members h.table list (with_member (members_at h.table list) (listed kick number)) }
+joined h list kick number =
+    record h { table = with_members h.table list (with_member (members_at h.table list) (listed kick number)) }
 
 abbrev pub placed : {V : Type 0} → Wiring → Shared V → ℕ → Option Place → Shared V
 placed g h kick None = h
@@ -123,25 +155,44 @@ unwritten (object.Content bytes) = replicate (length bytes) false
 
 abbrev pub opening_table : Constants → List Object → HostTable
 opening_table constants objects =
-    record { objects = opening_events objects constants.masks; lists = map (λ w. opening_members constants.queues w) (wiring_of constants (length objects)).opened }
+    record {
+      objects = opening_events objects constants.masks;
+      lists = map (λ w. opening_members constants.queues w) (wiring_of constants (length objects)).opened;
+    }
 
 abbrev pub before_rings : {V : Type 0} → Constants → Setup → V → Shared V
 before_rings constants setup service =
-    record { guest = record { regions = map given_region setup.regions; contents = contents_from 0 setup.objects }; rings = opening_rings constants setup.rings; table = opening_table constants setup.objects; pending = map (λ mask. []) constants.masks; service = service }
+    record {
+      guest = record { regions = map given_region setup.regions; contents = contents_from 0 setup.objects };
+      rings = opening_rings constants setup.rings;
+      table = opening_table constants setup.objects;
+      pending = map (λ mask. []) constants.masks;
+      service = service;
+    }
 
 -- what is held when all given rings are registered
 abbrev pub opening_held : {V : Type 0} → Constants → Setup → V → Shared V
 opening_held constants setup service =
-    fold (λ h r. registered (wiring_of constants (length setup.objects)) h r) (before_rings constants setup service) setup.rings
+    fold (λ h r. registered (wiring_of constants (length setup.objects)) h r) (before_rings constants setup service)
+    setup.rings
 
 abbrev pub mapping_of : GivenRegion → Mapping
 mapping_of r = record { user = r.user; len = r.len; start = r.start }
+
+-- what control is asked, one request after the other: a set-up names no requests yet
+abbrev pub requests_of : Setup → List Request
+requests_of setup = []
 
 -- no request was begun, and the session has the mappings of the given regions
 abbrev pub new_control : Setup → Control
 new_control setup =
     let s : Session = record { owned = false; features = 0; protocol = 0; mappings = map mapping_of setup.regions } in
-    record { session = s; plan = record { steps = []; reply = says answer.Ok; session = s }; requests = setup.requests; answers = [] }
+    record {
+      session = s;
+      plan = record { steps = []; reply = says answer.Ok; session = s };
+      requests = requests_of setup;
+      answers = [];
+    }
 
 -- the first request begins
 abbrev pub opening_control : {V : Type 0} → Constants → Setup → V → Control
@@ -150,9 +201,23 @@ opening_control constants setup service =
 
 unfoldable pub opening : {V : Type 0} → Constants → Setup → V → World V
 opening constants setup service =
-    record { shared = opening_held constants setup service; wiring = wiring_of constants (length setup.objects); phases = map (λ mask. Idle) constants.masks; guest = setup.guest; control = opening_control constants setup service; takes = []; uses = []; written = map unwritten setup.objects }
+    record {
+      shared = opening_held constants setup service;
+      wiring = wiring_of constants (length setup.objects);
+      phases = map (λ mask. Idle) constants.masks;
+      guest = setup.guest;
+      control = opening_control constants setup service;
+      takes = [];
+      uses = [];
+      written = map unwritten setup.objects;
+    }
+
+-- the ring is registered where it is ready and enabled, and has a kick and a worker
+abbrev pub is_registered_ring : Wiring → Option GivenRing → Bool
+is_registered_ring g None = false
+is_registered_ring g (Some r) = r.ready && r.enabled && is_some r.kick && is_some (place_of g r.queue)
 
 -- the opening counts as the registration of the rings that it registers
-abbrev pub is_registered : List GivenRing → ℕ → Bool
-is_registered [] queue = false
-is_registered (r ∷ rings) queue = if r.queue == queue then r.ready && r.enabled else is_registered rings queue
+abbrev pub is_registered : Constants → Setup → ℕ → Bool
+is_registered constants setup queue =
+    is_registered_ring (wiring_of constants (length setup.objects)) (find (λ r. r.queue == queue) setup.rings)

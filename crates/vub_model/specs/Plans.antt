@@ -1,6 +1,8 @@
 -- The plan of each control request: the small steps that it takes, what it is answered, and the session after it. It is
 -- fixed where the request begins, and depends only on what control steps alone change.
-use Rattle.std.specs.Prelude.{ℕ, zero, suc, ◌%◌, ◌^◌, Bool, true, false, ◌&&◌, ◌||◌, not, ◌==◌, nat_lt, nat_le, if◌then◌else◌, List, [], ◌∷◌, ◌++◌, length, map, filter, insert, Option, Some, None, is_some, Result, Ok, Err}
+use Rattle.std.specs.Prelude.{ℕ, zero, suc, ◌%◌, ◌^◌, Bool, true, false, ◌&&◌, ◌||◌, not, ◌==◌, nat_lt, nat_le}
+use Rattle.std.specs.Prelude.{if◌then◌else◌, List, [], ◌∷◌, ◌++◌, length, map, filter, insert, Option, Some, None}
+use Rattle.std.specs.Prelude.{is_some, Result, Ok, Err}
 use Rattle.std.specs.Int.{is_power_of_two}
 use Rattle.std.specs.Int.RustNames.{bit_or}
 use Rattle.std.specs.Result.{is_ok}
@@ -17,6 +19,7 @@ use Rattle.vub_proto.specs.declared.answer.Denied.TheVariants as denied
 use Rattle.vub_proto.specs.declared.answer.ListenerError.TheVariants as listener
 use Rattle.vub_proto.specs.declared.answer.VhostUserError.{VhostUserError}
 use Rattle.vub_proto.specs.declared.answer.VhostUserError.TheVariants as error
+use Rattle.vub_proto.specs.declared.device_op.Backend.{Backend}
 use Rattle.vub_proto.specs.declared.device_op.DeviceOp.{DeviceOp}
 use Rattle.vub_proto.specs.declared.device_op.DeviceOp.TheVariants as device
 use Rattle.vub_proto.specs.declared.request.Part.{Part}
@@ -25,7 +28,9 @@ use Rattle.vub_proto.specs.declared.request.Request.TheVariants as request
 use Rattle.vub_model.specs.declared.ring_op.RingOp.TheVariants as op
 use Rattle.vub_model.specs.declared.session.Session.{Session}
 use Rattle.vub_model.specs.declared.small.Small.{Small}
-use Rattle.vub_model.specs.declared.small.Small.TheVariants.{Claim, Release, Add, Delete, Listen, Unlisten, Bell, Remove, Insert, Set, Info, Table, Log, Device, Answer as Answering}
+use Rattle.vub_model.specs.declared.small.Small.TheVariants.{Claim, Release, Add, Delete, Listen, Unlisten, Bell}
+use Rattle.vub_model.specs.declared.small.Small.TheVariants.{Remove, Insert, Set, Info, Table, Log, Device}
+use Rattle.vub_model.specs.declared.small.Small.TheVariants.{Answer as Answering}
 use Rattle.vub_model.specs.declared.small.TableOp.{TableOp}
 use Rattle.vub_model.specs.declared.small.TableOp.TheVariants as table_op
 use Rattle.vub_model.specs.declared.wiring.Known.{Known}
@@ -81,7 +86,8 @@ off_steps None kick = []
 
 -- it joins both, and the bell is rung
 abbrev pub on_steps : Wiring → Option Place → Option ℕ → List Small
-on_steps g (Some p) (Some kick) = Add p.worker kick p.number ∷ Insert p.worker p.number ∷ Bell (opened_at g p.worker).bell ∷ []
+on_steps g (Some p) (Some kick) =
+    Add p.worker kick p.number ∷ Insert p.worker p.number ∷ Bell (opened_at g p.worker).bell ∷ []
 on_steps g (Some p) None = []
 on_steps g None kick = []
 
@@ -147,7 +153,8 @@ is_size g n = is_power_of_two n && nat_le n g.max
 -- by the guest addresses of the three parts
 abbrev pub info_plan : ℕ → Session → Result ℕ MemError → Result ℕ MemError → Result ℕ MemError → Plan
 info_plan queue s (Ok desc) (Ok avail) (Ok used) =
-    tested (is_ok (info_answer desc avail used)) error.InvalidParam s (done (Info queue desc avail used ∷ Answering ∷ []) s)
+    tested (is_ok (info_answer desc avail used)) error.InvalidParam s
+    (done (Info queue desc avail used ∷ Answering ∷ []) s)
 info_plan queue s (Err e) avail used = refused (error.ReqHandlerError (cause.Memory e)) s
 info_plan queue s (Ok desc) (Err e) used = refused (error.ReqHandlerError (cause.Memory e)) s
 info_plan queue s (Ok desc) (Ok avail) (Err e) = refused (error.ReqHandlerError (cause.Memory e)) s
@@ -206,7 +213,8 @@ features_steps g f bits =
     ++ Device (device.SetEventIdx (has_bit bits 29)) ∷ Device (device.AckedFeatures bits) ∷ Answering ∷ [])
 
 abbrev pub reset_steps : Wiring → Frame → List Small
-reset_steps g f = each_queue (λ q. disable_steps g q (known_at f q)) g.queues ++ Device device.ResetDevice ∷ Answering ∷ []
+reset_steps g f =
+    each_queue (λ q. disable_steps g q (known_at f q)) g.queues ++ Device device.ResetDevice ∷ Answering ∷ []
 
 -- Listeners
 
@@ -232,41 +240,67 @@ abbrev pub indexed : Wiring → ℕ → Session → Plan → Plan
 indexed g queue s plan = tested (nat_lt queue g.queues) error.InvalidParam s plan
 
 unfoldable pub plan_of : Wiring → Frame → List Region → Session → Request → Plan
-plan_of g f rs s request.SetOwner = tested (not s.owned) (error.InvalidOperation denied.AlreadyClaimed) s (answered answer.Ok (record s { owned = true }))
+plan_of g f rs s request.SetOwner =
+    tested (not s.owned) (error.InvalidOperation denied.AlreadyClaimed) s
+    (answered answer.Ok (record s { owned = true }))
 plan_of g f rs s request.ResetOwner = answered answer.Ok (record s { owned = false; features = 0; protocol = 0 })
 plan_of g f rs s request.ResetDevice = done (reset_steps g f) (record s { features = 0 })
 plan_of g f rs s request.GetFeatures = answered (answer.Number g.features) s
 plan_of g f rs s request.GetProtocolFeatures = answered (answer.Number g.protocol) s
 plan_of g f rs s request.GetQueueNum = answered (answer.Number g.queues) s
 plan_of g f rs s request.GetMaxMemSlots = answered (answer.Number 509) s
-plan_of g f rs s (request.SetFeatures bits) = tested (are_offered g.features bits) error.InvalidParam s (done (features_steps g f bits) (record s { features = bits }))
+plan_of g f rs s (request.SetFeatures bits) =
+    tested (are_offered g.features bits) error.InvalidParam s
+    (done (features_steps g f bits) (record s { features = bits }))
 plan_of g f rs s (request.SetProtocolFeatures bits) = answered answer.Ok (record s { protocol = bits })
-plan_of g f rs s (request.SetMemTable parts contents flag) = no_flag flag s (table_plan rs (table_op.Replace (regions_for parts contents)) (record s { mappings = mappings_for parts contents }))
-plan_of g f rs s (request.AddMemRegion part content flag) = no_flag flag s (table_plan rs (table_op.Insert (region_for part content)) (record s { mappings = s.mappings ++ mapping_for part ∷ [] }))
-plan_of g f rs s (request.RemoveMemRegion start len) = table_plan rs (table_op.Remove start len) (record s { mappings = filter (λ m. not (m.start == start)) s.mappings })
+plan_of g f rs s (request.SetMemTable parts contents flag) =
+    no_flag flag s
+    (table_plan rs (table_op.Replace (regions_for parts contents))
+    (record s { mappings = mappings_for parts contents }))
+plan_of g f rs s (request.AddMemRegion part content flag) =
+    no_flag flag s
+    (table_plan rs (table_op.Insert (region_for part content))
+    (record s { mappings = s.mappings ++ mapping_for part ∷ [] }))
+plan_of g f rs s (request.RemoveMemRegion start len) =
+    table_plan rs (table_op.Remove start len) (record s { mappings = filter (λ m. not (m.start == start)) s.mappings })
 plan_of g f rs s (request.SetLogBase size offset object) = done (Log object offset size ∷ Answering ∷ []) s
-plan_of g f rs s (request.SetVringNum queue n) = indexed g queue s (tested (is_size g n) error.InvalidParam s (done (Set queue (op.SetSize n) ∷ Answering ∷ []) s))
-plan_of g f rs s (request.SetVringAddr queue flags desc used avail log) = indexed g queue s (addr_plan queue s desc avail used)
-plan_of g f rs s (request.SetVringBase queue n) = indexed g queue s (done (Set queue (op.SetBase (n % 2 ^ 16)) ∷ Answering ∷ []) s)
-plan_of g f rs s (request.GetVringBase queue) = indexed g queue s (record { steps = stop_steps g queue (known_at f queue); reply = next_of queue; session = s })
-plan_of g f rs s (request.SetVringKick queue event) = indexed g queue s (done (kick_steps g queue (known_at f queue) event) s)
-plan_of g f rs s (request.SetVringCall queue event) = indexed g queue s (done (call_steps g queue (known_at f queue) event) s)
-plan_of g f rs s (request.SetVringErr queue event) = indexed g queue s (done (Set queue (op.SetErr event) ∷ Answering ∷ []) s)
+plan_of g f rs s (request.SetVringNum queue n) =
+    indexed g queue s (tested (is_size g n) error.InvalidParam s (done (Set queue (op.SetSize n) ∷ Answering ∷ []) s))
+plan_of g f rs s (request.SetVringAddr queue flags desc used avail log) =
+    indexed g queue s (addr_plan queue s desc avail used)
+plan_of g f rs s (request.SetVringBase queue n) =
+    indexed g queue s (done (Set queue (op.SetBase (n % 2 ^ 16)) ∷ Answering ∷ []) s)
+plan_of g f rs s (request.GetVringBase queue) =
+    indexed g queue s (record { steps = stop_steps g queue (known_at f queue); reply = next_of queue; session = s })
+plan_of g f rs s (request.SetVringKick queue event) =
+    indexed g queue s (done (kick_steps g queue (known_at f queue) event) s)
+plan_of g f rs s (request.SetVringCall queue event) =
+    indexed g queue s (done (call_steps g queue (known_at f queue) event) s)
+plan_of g f rs s (request.SetVringErr queue event) =
+    indexed g queue s (done (Set queue (op.SetErr event) ∷ Answering ∷ []) s)
 plan_of g f rs s (request.SetVringEnable queue enabled) =
     tested (has_bit s.features 30) error.InactiveFeature s
     (indexed g queue s (done (enable_steps g queue (known_at f queue) enabled ++ Answering ∷ []) s))
 plan_of g f rs s (request.GetConfig offset size flags) = asks (device.GetConfig offset size) s
 plan_of g f rs s (request.SetConfig offset bytes flags) = asks (device.SetConfig offset bytes) s
-plan_of g f rs s (request.SetBackendReqFd object) = asks (device.SetBackendReqFd (record { object = object; reply_ack = has_bit s.protocol 3; shared_object = has_bit s.protocol 18 })) s
+plan_of g f rs s (request.SetBackendReqFd object) =
+    let backend : Backend =
+    record { object = object; reply_ack = has_bit s.protocol 3; shared_object = has_bit s.protocol 18 } in
+    asks (device.SetBackendReqFd backend) s
 plan_of g f rs s (request.SetGpuSocket object) = asks (device.SetGpuSocket object) s
 plan_of g f rs s request.CheckDeviceState = asks device.CheckDeviceState s
 plan_of g f rs s (request.GetSharedObject uuid) = asks (device.GetSharedObject uuid) s
-plan_of g f rs s (request.SetDeviceStateFd direction phase object) = asks (device.SetDeviceStateFd direction phase object) s
+plan_of g f rs s (request.SetDeviceStateFd direction phase object) =
+    asks (device.SetDeviceStateFd direction phase object) s
 plan_of g f rs s request.GetShmemConfig = asks device.GetShmemConfig s
 plan_of g f rs s request.GetInflightFd = refused (error.InvalidOperation denied.NotSupported) s
 plan_of g f rs s (request.SetInflightFd object) = refused (error.InvalidOperation denied.NotSupported) s
 plan_of g f rs s (request.RegisterListener worker event set token) =
-    if is_listener g f worker event set token then done (Listen worker event token ∷ Answering ∷ []) s else listener_refused s
+    if is_listener g f worker event set token
+    then done (Listen worker event token ∷ Answering ∷ []) s
+    else listener_refused s
 plan_of g f rs s (request.UnregisterListener worker event set token) =
-    if is_listener g f worker event set token then done (Unlisten worker event g.queues ∷ Answering ∷ []) s else listener_refused s
+    if is_listener g f worker event set token
+    then done (Unlisten worker event g.queues ∷ Answering ∷ []) s
+    else listener_refused s
 plan_of g f rs s request.SendExit = done (exit_steps g.opened ++ Answering ∷ []) s

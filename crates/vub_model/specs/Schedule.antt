@@ -1,7 +1,8 @@
 -- The schedule invariant: how workers, rings, events, interest lists and pending sets stand to one another between two
 -- steps, so that no kick is lost. It holds at the opening and after every step. What it says of kicks, flags, lists and
 -- claims it says of the frame, which a step of the guest or of a worker leaves.
-use Rattle.std.specs.Prelude.{◌≡◌, ◌≢◌, ◌⊎◌, ℕ, ◌<◌, ◌^◌, Bool, true, false, ◌&&◌, List, [], ◌∷◌, length, slice_index_or, Some, None}
+use Rattle.std.specs.Prelude.{◌≡◌, ◌≢◌, ◌⊎◌, ℕ, ◌<◌, ◌^◌, Bool, true, false, ◌&&◌, List, [], ◌∷◌, length}
+use Rattle.std.specs.Prelude.{slice_index_or, Some, None}
 use Rattle.std.specs.List.{AllByRecursion}
 use Rattle.vub_event.specs.declared.member.Member.{Member}
 use Rattle.vub_event.specs.Counter.{has_bits}
@@ -14,7 +15,8 @@ use Rattle.vub_proto.specs.declared.request.Request.TheVariants as request
 use Rattle.vub_model.specs.declared.ring_op.RingOp.{RingOp}
 use Rattle.vub_model.specs.declared.ring_op.RingOp.TheVariants as op
 use Rattle.vub_model.specs.declared.small.Small.{Small}
-use Rattle.vub_model.specs.declared.small.Small.TheVariants.{Claim, Release, Add, Delete, Listen, Unlisten, Bell, Remove, Insert, Set, Info, Answer as Answering}
+use Rattle.vub_model.specs.declared.small.Small.TheVariants.{Claim, Release, Add, Delete, Listen, Unlisten, Bell}
+use Rattle.vub_model.specs.declared.small.Small.TheVariants.{Remove, Insert, Set, Info, Answer as Answering}
 use Rattle.vub_model.specs.Plans.{Reply, says, next_of}
 use Rattle.vub_model.specs.FrameSteps.{passes, frame_step}
 use Rattle.vub_model.specs.RingRecord.{is_on, has_addresses}
@@ -44,8 +46,8 @@ pub record IsBellOrExit (g : Wiring) (f : Frame) (worker : ℕ) (m : Member) : T
   pub object : (m.object ≡ (opened_at g worker).bell) ⊎ ((opened_at g worker).exit ≡ Some m.object)
   pub free : claim_at f m.object ≡ None
 
--- the member is a listener: its token is above the number of queues, and it is no bell, not the worker's exit object and
--- claimed by no queue
+-- the member is a listener: its token is above the number of queues, and it is no bell, not the worker's exit object
+-- and claimed by no queue
 pub record IsListener (g : Wiring) (f : Frame) (worker : ℕ) (m : Member) : Type 0 where
   pub token : g.queues < m.token
   pub free : claim_at f m.object ≡ None
@@ -61,22 +63,28 @@ pub record IsOwn (g : Wiring) (f : Frame) (worker : ℕ) (m : Member) : Type 0 w
 pub record Linked (g : Wiring) (f : Frame) : Type 0 where
   pub members : (worker : ℕ) → worker < length g.opened → AllByRecursion (IsOwn g f worker) (list_at g f worker)
   -- each worker listens to its exit object, if it has one, and to its bell, which is its own and claimed by no queue
-  pub exit : (worker object : ℕ) → worker < length g.opened → (opened_at g worker).exit ≡ Some object → is_member (list_at g f worker) object ≡ true
+  pub exit :
+      (worker object : ℕ) → worker < length g.opened → (opened_at g worker).exit ≡ Some object →
+      is_member (list_at g f worker) object ≡ true
   pub bell : (worker : ℕ) → worker < length g.opened → is_member (list_at g f worker) (opened_at g worker).bell ≡ true
   pub free : (worker : ℕ) → worker < length g.opened → claim_at f (opened_at g worker).bell ≡ None
-  pub exit_free : (worker object : ℕ) → worker < length g.opened → (opened_at g worker).exit ≡ Some object → claim_at f object ≡ None
-  pub apart : (v w : ℕ) → v < length g.opened → w < length g.opened → (opened_at g v).bell ≡ (opened_at g w).bell → v ≡ w
+  pub exit_free :
+      (worker object : ℕ) → worker < length g.opened → (opened_at g worker).exit ≡ Some object →
+      claim_at f object ≡ None
+  pub apart :
+      (v w : ℕ) → v < length g.opened → w < length g.opened → (opened_at g v).bell ≡ (opened_at g w).bell → v ≡ w
   -- a ring's kick is claimed by it
   pub claimed : (queue kick : ℕ) → (known_at f queue).kick ≡ Some kick → claim_at f kick ≡ Some queue
 
 -- the kick of a queue is a member of its worker's list exactly where the queue is ready and enabled
 abbrev pub Settled : Wiring → Frame → Type 0
 Settled g f =
-    (queue worker number kick : ℕ) → worker < length g.opened → IsPlaced g queue worker number → (known_at f queue).kick ≡ Some kick →
+    (queue worker number kick : ℕ) → worker < length g.opened → IsPlaced g queue worker number →
+    (known_at f queue).kick ≡ Some kick →
     is_member (list_at g f worker) kick ≡ ((known_at f queue).ready && (known_at f queue).enabled)
 
--- Plans: what is asked of the frame at each step of the plan that is left, so that it is settled in the end, and wherever
--- a refusal may be answered in place of the rest.
+-- Plans: what is asked of the frame at each step of the plan that is left, so that it is settled in the end, and
+-- wherever a refusal may be answered in place of the rest.
 
 -- the wiring has a place for what it names
 pub record Wired (g : Wiring) (f : Frame) : Type 0 where
@@ -85,7 +93,8 @@ pub record Wired (g : Wiring) (f : Frame) : Type 0 where
   pub placed : (queue worker number : ℕ) → IsPlaced g queue worker number → worker < length g.opened
   pub within : (worker : ℕ) → worker < length g.opened → (opened_at g worker).list < length f.lists
   pub bells : (worker : ℕ) → worker < length g.opened → is_there f (opened_at g worker).bell ≡ true
-  pub lists : (v w : ℕ) → v < length g.opened → w < length g.opened → (opened_at g v).list ≡ (opened_at g w).list → v ≡ w
+  pub lists :
+      (v w : ℕ) → v < length g.opened → w < length g.opened → (opened_at g v).list ≡ (opened_at g w).list → v ≡ w
 
 abbrev pub First : List Small → Small → Type 0
 First [] s = ⊥
@@ -94,7 +103,8 @@ First (t ∷ rest) s = t ≡ s
 -- the kick of the queue is no member of its worker's list
 abbrev pub Quiet : Wiring → Frame → ℕ → Type 0
 Quiet g f queue =
-    (worker number kick : ℕ) → worker < length g.opened → IsPlaced g queue worker number → (known_at f queue).kick ≡ Some kick →
+    (worker number kick : ℕ) → worker < length g.opened → IsPlaced g queue worker number →
+    (known_at f queue).kick ≡ Some kick →
     is_member (list_at g f worker) kick ≡ false
 
 -- the object is the kick of the queue with this event number at this worker
@@ -129,10 +139,12 @@ Fits g f reply (Claim object queue) rest = Settled g f × (is_there f object ≡
 Fits g f reply (Release object) rest = (queue : ℕ) → (known_at f queue).kick ≡ Some object → ⊥
 Fits g f reply (Add worker object token) rest = IsKickAt g f worker token object × First rest (Insert worker token)
 Fits g f reply (Delete worker object) rest = (number : ℕ) × IsKickAt g f worker number object
-Fits g f reply (Listen worker object token) rest = Settled g f × (worker < length g.opened) × (g.queues < token) × NoBell g object
+Fits g f reply (Listen worker object token) rest =
+    Settled g f × (worker < length g.opened) × (g.queues < token) × NoBell g object
 Fits g f reply (Unlisten worker object above) rest = Settled g f × (worker < length g.opened) × (above ≡ g.queues)
 Fits g f reply (Bell object) rest = Unit {0}
-Fits g f reply (Remove worker number) rest = (object : ℕ) × IsKickAt g f worker number object × First rest (Delete worker object)
+Fits g f reply (Remove worker number) rest =
+    (object : ℕ) × IsKickAt g f worker number object × First rest (Delete worker object)
 Fits g f reply (Insert worker number) rest = IsNumber g worker number × First rest (Bell (opened_at g worker).bell)
 Fits g f reply (Set queue o) rest = (queue < g.queues) × SetFits g f queue o
 Fits g f reply (Info queue desc avail used) rest = queue < g.queues
@@ -146,7 +158,8 @@ Safe g f reply (s ∷ rest) = Fits g f reply s rest × (passes g f s ≡ true �
 
 -- a new kick is an event of the set-up, which is no bell, and so is a listener
 abbrev pub RequestFits : Wiring → List Bool → Request → Type 0
-RequestFits g events (request.SetVringKick queue (Some object)) = (slice_index_or events object false ≡ true) × NoBell g object
+RequestFits g events (request.SetVringKick queue (Some object)) =
+    (slice_index_or events object false ≡ true) × NoBell g object
 RequestFits g events (request.RegisterListener worker object set token) = NoBell g object
 RequestFits g events r = Unit {0}
 
@@ -159,8 +172,8 @@ list_of (Taken e queues) = queues
 list_of (Served e reply queues) = queues
 list_of phase = []
 
--- a polled event is the bell's or the exit object's, or it has the event number of a queue that has this worker, or it is
--- a listener's; and the queues that the worker serves have this worker
+-- a polled event is the bell's or the exit object's, or it has the event number of a queue that has this worker, or it
+-- is a listener's; and the queues that the worker serves have this worker
 abbrev pub PhaseFits : Wiring → ℕ → Phase → Type 0
 PhaseFits g worker (Polled object token) = (token ≡ g.queues) ⊎ (IsNumber g worker token ⊎ (g.queues < token))
 PhaseFits g worker phase = AllByRecursion (λ q. HasWorker g q worker) (list_of phase)
@@ -171,7 +184,8 @@ HasInHand (Taken e queues) queue = e.queue ≡ queue
 HasInHand (Served e reply queues) queue = e.queue ≡ queue
 HasInHand phase queue = ⊥
 
--- the ring has its last entry in flight and its addresses, and is ready: a ring does not cease to be while one is in flight
+-- the ring has its last entry in flight and its addresses, and is ready: a ring does not cease to be while one is in
+-- flight
 pub record IsFlying {V : Type 0} (h : Shared V) (queue : ℕ) : Type 0 where
   pub flight : (ring_at h queue).flight ≡ flight.InFlight
   pub addresses : has_addresses (ring_at h queue) ≡ true
@@ -184,15 +198,17 @@ pub data Rung (bell_count : ℕ) (phase : Phase) : Type 0 where
   ringing : 0 < bell_count → Rung bell_count phase
   sweeping : phase ≡ Sweep → Rung bell_count phase
 
--- a worker that has not stopped, with something pending, hears of it, or control is about to ring its bell
+-- a worker with something pending hears of it, or control is about to ring its bell
 abbrev pub AllRung : {V : Type 0} → World V → Type 0
 AllRung w =
-    (worker : ℕ) → worker < length w.wiring.opened → (HasStopped (phase_at w.phases worker) → ⊥) → pending_at w.shared worker ≢ [] →
-    Rung (count_at w.shared.table (opened_at w.wiring worker).bell) (phase_at w.phases worker) ⊎ First w.control.plan.steps (Bell (opened_at w.wiring worker).bell)
+    (worker : ℕ) → worker < length w.wiring.opened → pending_at w.shared worker ≢ [] →
+    Rung (count_at w.shared.table (opened_at w.wiring worker).bell) (phase_at w.phases worker)
+    ⊎ First w.control.plan.steps (Bell (opened_at w.wiring worker).bell)
 
 -- Kicks
 
--- what keeps a queue with an entry left awake: its kick is above zero, its event number is pending, or its worker serves it
+-- what keeps a queue with an entry left awake: its kick is above zero, its event number is pending, or its worker
+-- serves it
 pub data Woken (kick_count : ℕ) (pending : List ℕ) (phase : Phase) (queue number : ℕ) : Type 0 where
   signalled : 0 < kick_count → Woken kick_count pending phase queue number
   waiting : has_number number pending ≡ true → Woken kick_count pending phase queue number
@@ -205,11 +221,14 @@ IsHandled steps worker number kick = First steps (Insert worker number) ⊎ Firs
 -- a calm running queue with an entry left, whose kick is a member, is awake
 abbrev pub Awake : {V : Type 0} → World V → (ℕ → Bool) → Type 0
 Awake w calm =
-    (queue worker number kick : ℕ) → IsPlaced w.wiring queue worker number → (HasStopped (phase_at w.phases worker) → ⊥) →
-    (ring_at w.shared queue).kick ≡ Some kick → is_member (members_at w.shared.table (opened_at w.wiring worker).list) kick ≡ true →
+    (queue worker number kick : ℕ) → IsPlaced w.wiring queue worker number →
+    (HasStopped (phase_at w.phases worker) → ⊥) →
+    (ring_at w.shared queue).kick ≡ Some kick →
+    is_member (members_at w.shared.table (opened_at w.wiring worker).list) kick ≡ true →
     is_on (ring_at w.shared queue) ≡ true → has_addresses (ring_at w.shared queue) ≡ true → calm queue ≡ true →
     has_left w.shared.guest (ring_at w.shared queue) ≡ true →
-    Woken (count_at w.shared.table kick) (pending_at w.shared worker) (phase_at w.phases worker) queue number ⊎ IsHandled w.control.plan.steps worker number kick
+    Woken (count_at w.shared.table kick) (pending_at w.shared worker) (phase_at w.phases worker) queue number
+    ⊎ IsHandled w.control.plan.steps worker number kick
 
 -- The schedule invariant, where these queues are calm.
 pub record Invariant {V : Type 0} (w : World V) (calm : ℕ → Bool) : Type 0 where
@@ -221,10 +240,16 @@ pub record Invariant {V : Type 0} (w : World V) (calm : ℕ → Bool) : Type 0 w
   pub safe : Safe w.wiring (frame_of w.shared) w.control.plan.reply w.control.plan.steps
   pub requests : AllByRecursion (RequestFits w.wiring (frame_of w.shared).events) w.control.requests
   -- a pending number is that of a queue that has this worker
-  pub numbers : (worker number : ℕ) → has_number number (pending_at w.shared worker) ≡ true → IsNumber w.wiring worker number
+  pub numbers :
+      (worker number : ℕ) → has_number number (pending_at w.shared worker) ≡ true → IsNumber w.wiring worker number
   pub phases : (worker : ℕ) → PhaseFits w.wiring worker (phase_at w.phases worker)
-  -- an entry in flight is in the hand of its queue's worker, and an entry in hand is in flight, of a ring with addresses
-  pub flies : (queue : ℕ) → (ring_at w.shared queue).flight ≡ flight.InFlight → (worker : ℕ) × HasWorker w.wiring queue worker × HasInHand (phase_at w.phases worker) queue
-  pub hands : (worker queue : ℕ) → HasInHand (phase_at w.phases worker) queue → HasWorker w.wiring queue worker × IsFlying w.shared queue
+  -- an entry in flight is in the hand of its queue's worker, and an entry in hand is in flight, of a ring with
+  -- addresses
+  pub flies :
+      (queue : ℕ) → (ring_at w.shared queue).flight ≡ flight.InFlight →
+      (worker : ℕ) × HasWorker w.wiring queue worker × HasInHand (phase_at w.phases worker) queue
+  pub hands :
+      (worker queue : ℕ) → HasInHand (phase_at w.phases worker) queue →
+      HasWorker w.wiring queue worker × IsFlying w.shared queue
   pub rung : AllRung w
   pub awake : Awake w calm

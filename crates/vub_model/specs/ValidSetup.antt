@@ -1,5 +1,7 @@
 -- Which test a set-up fails first. A set-up that fails none is valid.
-use Rattle.std.specs.Prelude.{◌≡◌, ℕ, ◌+◌, ◌%◌, Bool, true, false, not, ◌&&◌, ◌==◌, nat_le, nat_lt, if◌then◌else◌, List, [], ◌∷◌, ◌++◌, length, take, map, Option, Some, None, is_some, option_map, position, slice_get}
+use Rattle.std.specs.Prelude.{◌≡◌, ℕ, ◌+◌, ◌%◌, Bool, true, false, not, ◌&&◌, ◌==◌, nat_le, nat_lt, if◌then◌else◌, List}
+use Rattle.std.specs.Prelude.{[], ◌∷◌, ◌++◌, length, take, map, Option, Some, None, is_some, option_map, position}
+use Rattle.std.specs.Prelude.{slice_get}
 use Rattle.std.specs.List.{list_all}
 use Rattle.std.specs.Option.{option_map_or}
 use Rattle.std.specs.Int.{is_power_of_two}
@@ -17,8 +19,6 @@ use Rattle.vub_model.specs.declared.setup.GivenRing.{GivenRing}
 use Rattle.vub_model.specs.declared.setup.Info.{Info}
 use Rattle.vub_model.specs.declared.setup.Setup.{Setup}
 use Rattle.vub_model.specs.declared.constants.Constants.{Constants}
-use Rattle.vub_proto.specs.declared.request.Request.{Request}
-use Rattle.vub_proto.specs.declared.request.Request.TheVariants as request
 use Rattle.vub_model.specs.Work.{is_object}
 
 -- the first fault of the two
@@ -89,7 +89,9 @@ region_fault objects regions =
 unfoldable pub given_table_fault : List Object → List GivenRegion → Option SetupFault
 given_table_fault objects [] = None
 given_table_fault objects (r ∷ rs) =
-    if is_some (table_fault (contents_from 0 objects) (map given_region (r ∷ rs))) then Some (setup_fault.Region 0) else None
+    if is_some (table_fault (contents_from 0 objects) (map given_region (r ∷ rs)))
+    then Some (setup_fault.Region 0)
+    else None
 
 -- the addresses have their alignment (virtio 1.2, section 2.7)
 abbrev pub is_aligned : Option Info → Bool
@@ -99,7 +101,8 @@ is_aligned (Some info) = (info.desc % 16 == 0) && (info.avail % 2 == 0) && (info
 -- whether the event is no kick of these rings and no exit object
 unfoldable pub is_free : Constants → List GivenRing → ℕ → Bool
 is_free constants earlier number =
-    list_all (λ ring. not (is_object ring.kick number)) earlier && list_all (λ exit. not (is_object exit number)) constants.exits
+    list_all (λ ring. not (is_object ring.kick number)) earlier
+    && list_all (λ exit. not (is_object exit number)) constants.exits
 
 abbrev pub is_free_or_none : Constants → List GivenRing → Option ℕ → Bool
 is_free_or_none constants earlier None = true
@@ -148,28 +151,6 @@ guest_fault objects guest =
     or_else (option_map (λ i. setup_fault.Guest i) (first_impossible objects (take 1048576 guest)))
     (if nat_lt 1048576 (length guest) then Some (setup_fault.Guest 1048576) else None)
 
--- whether the objects and the worker that a request names are there, and of the right kind
-unfoldable pub is_answerable : Constants → List Object → Request → Bool
-is_answerable constants objects (request.SetVringKick queue event) = is_event_or_none objects event
-is_answerable constants objects (request.SetVringCall queue event) = is_event_or_none objects event
-is_answerable constants objects (request.SetVringErr queue event) = is_event_or_none objects event
-is_answerable constants objects (request.SetMemTable parts contents flag) = list_all (λ o. is_some (content_len objects o)) contents
-is_answerable constants objects (request.AddMemRegion part content flag) = is_some (content_len objects content)
-is_answerable constants objects (request.SetLogBase size offset object) = false
-is_answerable constants objects (request.SetBackendReqFd object) = nat_lt object (length objects)
-is_answerable constants objects (request.SetGpuSocket object) = nat_lt object (length objects)
-is_answerable constants objects (request.SetDeviceStateFd direction phase object) = nat_lt object (length objects)
-is_answerable constants objects (request.SetInflightFd object) = nat_lt object (length objects)
-is_answerable constants objects (request.RegisterListener worker event set token) = is_event objects event && nat_lt worker (length constants.masks)
-is_answerable constants objects (request.UnregisterListener worker event set token) = is_event objects event && nat_lt worker (length constants.masks)
-is_answerable constants objects r = true
-
--- the first request that names what is not there, from this number on
-unfoldable pub request_fault : Constants → List Object → ℕ → List Request → Option SetupFault
-request_fault constants objects i [] = None
-request_fault constants objects i (r ∷ requests) =
-    if is_answerable constants objects r then request_fault constants objects (i + 1) requests else Some (setup_fault.Request i)
-
 -- the first test that a set-up fails, for a device with these constants
 unfoldable pub fault_of : Constants → Setup → Option SetupFault
 fault_of constants setup =
@@ -177,8 +158,7 @@ fault_of constants setup =
     (or_else (region_fault setup.objects setup.regions)
     (or_else (given_table_fault setup.objects setup.regions)
     (or_else (ring_fault constants setup.objects [] setup.rings)
-    (or_else (request_fault constants setup.objects 0 setup.requests)
-    (guest_fault setup.objects setup.guest)))))
+    (guest_fault setup.objects setup.guest))))
 
 abbrev pub IsValid : Constants → Setup → Type 0
 IsValid constants setup = fault_of constants setup ≡ None

@@ -1,5 +1,8 @@
 -- A worker's steps: which label it may play in a phase, and what the step makes of what is held and of the phase.
-use Rattle.std.specs.Prelude.{◌≡◌, ℕ, Bool, true, false, ◌&&◌, ◌==◌, not, nat_lt, if◌then◌else◌, List, [], ◌∷◌, length, slice_index, Option, Some, None, is_some, map, filter, Result, Ok, Err}
+use Rattle.std.specs.Prelude.{◌≡◌, ℕ, Bool, true, false, ◌&&◌, ◌==◌, not, nat_lt, if◌then◌else◌, List, [], ◌∷◌, length}
+use Rattle.std.specs.Prelude.{slice_index, Option, Some, None, is_some, map, filter, Result, Ok, Err}
+use Rattle.vub_mem.specs.Memory.{Guest}
+use Rattle.vub_queue.specs.Ring.{Ring}
 use Rattle.vub_queue.specs.declared.chain.Chain.{Chain}
 use Rattle.vub_queue.specs.declared.took.Took.{Took}
 use Rattle.vub_queue.specs.declared.took.Took.TheVariants as took
@@ -23,11 +26,13 @@ use Rattle.vub_model.specs.declared.entry.Entry.{Entry}
 use Rattle.vub_model.specs.declared.play.Play.{Play}
 use Rattle.vub_model.specs.declared.play.Play.TheVariants as play
 use Rattle.vub_model.specs.declared.phase.Phase.{Phase}
-use Rattle.vub_model.specs.declared.phase.Phase.TheVariants.{Idle, Polled, Sweep, Heard, Serving, Taken, Served, Stopped}
+use Rattle.vub_model.specs.declared.phase.Phase.TheVariants.{Idle, Polled, Sweep, Heard, Serving, Taken, Served}
+use Rattle.vub_model.specs.declared.phase.Phase.TheVariants.{Stopped}
 use Rattle.vub_model.specs.declared.ring_op.RingOp.TheVariants as op
 use Rattle.vub_model.specs.RingRecord.{Vring, is_on, has_addresses, is_in_flight, limit, ring_after}
 use Rattle.vub_model.specs.EntryNumber.{next_number}
-use Rattle.vub_model.specs.Shared.{Shared, ring_at, with_ring, count_at, counter_read, raised_or_none, is_ready, token_of, pending_at, swept}
+use Rattle.vub_model.specs.Shared.{Shared, ring_at, with_ring, count_at, counter_read, raised_or_none, is_ready}
+use Rattle.vub_model.specs.Shared.{token_of, pending_at, swept}
 use Rattle.vub_model.specs.Wiring.{Wiring, opened_at, queues_of}
 use Rattle.vub_model.specs.Service.{Meaning}
 use Rattle.vub_model.specs.Control.{IsOutcome}
@@ -55,7 +60,10 @@ is_object (Some other) object = other == object
 abbrev pub after_kick : {V : Type 0} → Shared V → ℕ → ℕ → Local V
 after_kick h queue object =
     if is_object (ring_at h queue).kick object
-    then record { shared = counter_read h object; phase = if is_on (ring_at h queue) then Serving (queue ∷ []) else Idle }
+    then record {
+      shared = counter_read h object;
+      phase = if is_on (ring_at h queue) then Serving (queue ∷ []) else Idle;
+    }
     else record { shared = h; phase = Idle }
 
 -- a bell above zero is read to zero, and the pending numbers are due; at zero a worker with an exit object stops
@@ -76,7 +84,8 @@ after_listener h list object token =
     then record { shared = counter_read h object; phase = Heard token }
     else record { shared = h; phase = Idle }
 
--- by the token: below the length of the worker's list a kick, the number of queues for bell and exit object, above it a listener
+-- by the token: below the length of the worker's list a kick, the number of queues for bell and exit object, above it a
+-- listener
 abbrev pub after_event : {V : Type 0} → Wiring → ℕ → Shared V → ℕ → ℕ → Local V
 after_event g worker h object token =
     if nat_lt token (length (queues_of g worker))
@@ -122,7 +131,10 @@ after_none h queue =
 
 abbrev pub after_took : {V : Type 0} → Shared V → ℕ → List ℕ → Took → Local V
 after_took h queue rest (took.Entry c) =
-    record { shared = with_ring h queue (ring_after (ring_at h queue) op.Taken); phase = Taken (entry_of queue (ring_at h queue) c) (queue ∷ rest) }
+    record {
+      shared = with_ring h queue (ring_after (ring_at h queue) op.Taken);
+      phase = Taken (entry_of queue (ring_at h queue) c) (queue ∷ rest);
+    }
 after_took h queue rest took.None = record { shared = after_none h queue; phase = serving rest }
 after_took h queue rest (took.Damaged d) = record { shared = h; phase = stopped (why.Damage d) }
 
@@ -134,15 +146,25 @@ after_take h (queue ∷ rest) = after_took h queue rest (looked h queue)
 
 abbrev pub after_serve : {V : Type 0} → Meaning V → Shared V → Entry → List ℕ → Local V
 after_serve m h e queues =
-    record { shared = record h { service = m.after h.service e.chain.request e.chain.room }; phase = Served e (m.reply_of h.service e.chain.request e.chain.room) queues }
+    record {
+      shared = record h { service = m.after h.service e.chain.request e.chain.room };
+      phase = Served e (m.reply_of h.service e.chain.request e.chain.room) queues;
+    }
 
 -- Put
+
+-- whether the driver wants to be told of this use
+abbrev pub is_wanted : Guest → Ring → Chain → List ℕ → Bool
+is_wanted g r c reply = wants_notification (put_guest g r c reply) (ring_used r)
+
+abbrev pub answer_put : Guest → Ring → Chain → List ℕ → Result Bool PutFault
+answer_put g r c reply = put_answer g.regions r c reply (is_wanted g r c reply)
 
 -- whether the used entry is told of, or why the use is refused
 unfoldable pub put_said : {V : Type 0} → Shared V → Entry → List ℕ → Result Bool PutFault
 put_said h e reply =
     if has_addresses (ring_at h e.queue)
-    then put_answer h.guest.regions (ring_at h e.queue).queue e.chain reply (wants_notification (put_guest h.guest (ring_at h e.queue).queue e.chain reply) (ring_used (ring_at h e.queue).queue))
+    then answer_put h.guest (ring_at h e.queue).queue e.chain reply
     else Err put_fault.RingOutside
 
 abbrev pub why_of : PutFault → Why
@@ -152,7 +174,10 @@ why_of put_fault.RingOutside = why.RingOutside
 -- the reply stands in memory, and the ring's used index is raised
 abbrev pub used : {V : Type 0} → Shared V → Entry → List ℕ → Shared V
 used h e reply =
-    record h { guest = put_guest h.guest (ring_at h e.queue).queue e.chain reply; rings = (with_ring h e.queue (ring_after (ring_at h e.queue) op.Put)).rings }
+    record h {
+      guest = put_guest h.guest (ring_at h e.queue).queue e.chain reply;
+      rings = (with_ring h e.queue (ring_after (ring_at h e.queue) op.Put)).rings;
+    }
 
 -- the call is signalled, where the driver wants it
 abbrev pub called : {V : Type 0} → Shared V → Option ℕ → Bool → Shared V
@@ -160,8 +185,10 @@ called h call false = h
 called h call true = raised_or_none h call
 
 abbrev pub after_said : {V : Type 0} → Shared V → Entry → List ℕ → List ℕ → Result Bool PutFault → Local V
-after_said h e reply queues (Ok wanted) = record { shared = called (used h e reply) (ring_at h e.queue).call wanted; phase = serving queues }
-after_said h e reply queues (Err fault) = record { shared = with_ring h e.queue (ring_after (ring_at h e.queue) op.Hold); phase = stopped (why_of fault) }
+after_said h e reply queues (Ok wanted) =
+    record { shared = called (used h e reply) (ring_at h e.queue).call wanted; phase = serving queues }
+after_said h e reply queues (Err fault) =
+    record { shared = with_ring h e.queue (ring_after (ring_at h e.queue) op.Hold); phase = stopped (why_of fault) }
 
 abbrev pub after_put : {V : Type 0} → Shared V → Entry → List ℕ → List ℕ → Local V
 after_put h e reply queues = after_said h e reply queues (put_said h e reply)
@@ -179,7 +206,8 @@ MayWork g worker h (Served e reply queues) play.Put = Unit {0}
 MayWork g worker h phase l = ⊥
 
 abbrev pub after_work : {V : Type 0} → Meaning V → Wiring → ℕ → Shared V → Phase → Play → Local V
-after_work m g worker h Idle (play.Poll object) = record { shared = h; phase = Polled object (token_of h.table (opened_at g worker).list object) }
+after_work m g worker h Idle (play.Poll object) =
+    record { shared = h; phase = Polled object (token_of h.table (opened_at g worker).list object) }
 after_work m g worker h (Polled object token) play.Event = after_event g worker h object token
 after_work m g worker h Sweep play.Sweep = after_sweep g worker h
 after_work m g worker h (Heard token) (play.Hear said) = record { shared = h; phase = after_heard said }

@@ -1,5 +1,6 @@
 -- The state of the machine with what a run records, which label a party may play, and what is after it.
-use Rattle.std.specs.Prelude.{◌≢◌, ℕ, ◌+◌, Bool, nat_le, length, List, [], ◌∷◌, ◌++◌, slice_index_or, slice_set, Result, Ok, Err}
+use Rattle.std.specs.Prelude.{◌≢◌, ℕ, ◌+◌, Bool, nat_le, length, List, [], ◌∷◌, ◌++◌, slice_index_or, slice_set, Result}
+use Rattle.std.specs.Prelude.{Ok, Err}
 use Rattle.vub_mem.specs.Memory as memory
 use Rattle.vub_mem.specs.Place.{content_of, store_at}
 use Rattle.vub_proto.specs.declared.used.Used.{Used}
@@ -61,7 +62,15 @@ after_guest w (action ∷ actions) = record w { shared = acted w.shared action; 
 -- What a worker's step records
 
 abbrev pub take_of : Entry → Take
-take_of e = record { queue = e.queue; epoch = e.epoch; number = e.number; head = e.chain.head; request = e.chain.request; room = e.chain.room }
+take_of e =
+    record {
+      queue = e.queue;
+      epoch = e.epoch;
+      number = e.number;
+      head = e.chain.head;
+      request = e.chain.request;
+      room = e.chain.room;
+    }
 
 abbrev pub used_of : Entry → List ℕ → Used
 used_of e reply = record { queue = e.queue; epoch = e.epoch; number = e.number; head = e.chain.head; reply = reply }
@@ -90,12 +99,19 @@ written_by h l phase = []
 
 abbrev pub after_local : {V : Type 0} → World V → ℕ → Play → Phase → Local V → World V
 after_local w worker l before local =
-    record w { shared = local.shared; phases = slice_set w.phases worker local.phase; takes = w.takes ++ takes_by l local.phase; uses = w.uses ++ uses_by w.shared l before; written = with_spots w.written (written_by w.shared l before) }
+    record w {
+      shared = local.shared;
+      phases = slice_set w.phases worker local.phase;
+      takes = w.takes ++ takes_by l local.phase;
+      uses = w.uses ++ uses_by w.shared l before;
+      written = with_spots w.written (written_by w.shared l before);
+    }
 
 -- Control
 
 abbrev pub after_control : {V : Type 0} → World V → Small → DeviceSaid → World V
-after_control w s said = record w { shared = small_after w.wiring w.shared s; control = control_after w.wiring w.shared w.control s said }
+after_control w s said =
+    record w { shared = small_after w.wiring w.shared s; control = control_after w.wiring w.shared w.control s said }
 
 -- May and After
 
@@ -109,5 +125,6 @@ May w p l = ⊥
 abbrev pub after : {V : Type 0} → Meaning V → World V → Party → Play → World V
 after m w party.Guest play.Guest = after_guest w w.guest
 after m w party.Control (play.Control s said) = after_control w s said
-after m w (party.Worker k) l = after_local w k l (phase_at w.phases k) (after_work m w.wiring k w.shared (phase_at w.phases k) l)
+after m w (party.Worker k) l =
+    after_local w k l (phase_at w.phases k) (after_work m w.wiring k w.shared (phase_at w.phases k) l)
 after m w p l = w
