@@ -8,3 +8,4 @@ pub mod Searching
 pub mod Striking
 pub mod Telling
 pub mod WriteLaws
+pub mod Orderly
