@@ -218,7 +218,7 @@ unfolding signal_refusal signal_after
 signal-keeps object value r old new orderly call = meets-keeps _ _ (signal_after old object value) old new r (λ due.
     change-keeps old object (λ event. written event value)
     (λ event at. written-fits event value (sym (ap (λ o. due_of (λ event. write_refusal event value) o) at) ∙ due)) orderly (event_at old object) refl)
-  orderly call
+    orderly call
 
 consumed-orderly : (old : HostTable) (object : ℕ) → IsOrderly old → IsOrderly (consume_after old object)
 unfolding consume_after
@@ -231,7 +231,7 @@ consume-keeps object r old new orderly call = meets-keeps _ _ (consume_after old
 pub consume_as-keeps : (list object token : ℕ) (r : Result Bool HostError) (old new : HostTable) → IsOrderly old → ConsumeAsCall list object token r old new → IsOrderly new
 consume_as-keeps list object token r old new orderly call = meets-keeps _ _ _ old new r
     (λ due. elim (is_listed_as old list object token) as (λ b. IsOrderly (if b then consume_after old object else old)) [ true ↦ consumed-orderly old object orderly | false ↦ orderly ])
-  orderly call
+    orderly call
 
 members-keep : (table : HostTable) (list : ℕ) (ms : List Member) → IsOrdered ms → ((q : ℕ) → is_some (member_of ms q) ≡ true → has_event table q ≡ true) → IsOrderly table → IsOrderly (with_members table list ms)
 members-keep table list ms ordered there orderly = record {
@@ -272,7 +272,7 @@ unfolding modify_after
 modify-keeps list n r old new orderly call = meets-keeps _ _ (modify_after old list n) old new r (λ due.
     members-keep old list (with_changed (members_at old list) n) (ordered-changed (members_at old list) n (orderly.ordered list))
     (λ q is. orderly.there list q (member-changed (members_at old list) n q is)) orderly)
-  orderly call
+    orderly call
 
 deleted-orderly : (old : HostTable) (list object : ℕ) → IsOrderly old → IsOrderly (delete_after old list object)
 unfolding delete_after
@@ -309,8 +309,8 @@ unfolding close_after
 closed-orderly old object orderly = record {
   ordered = map-keeps IsOrdered IsOrdered (λ ms. without_member ms object) old.lists [] tt (λ ms. ordered-without ms object) orderly.ordered;
   there = λ l q is. map-keeps (λ ms. is_some (member_of ms q) ≡ true → has_event old q ≡ true) (λ ms. is_some (member_of ms q) ≡ true → has_event (with_event old object None) q ≡ true)
-    (λ ms. without_member ms object) old.lists [] (λ h. absurd (let no : ⊥ = cc in no))
-    (λ ms there h. let rest = member-without ms object q h in some-none old.objects object q rest.0 (there rest.1)) (λ k. orderly.there k q) l is;
+      (λ ms. without_member ms object) old.lists [] (λ h. absurd (let no : ⊥ = cc in no))
+      (λ ms there h. let rest = member-without ms object q h in some-none old.objects object q rest.0 (there rest.1)) (λ k. orderly.there k q) l is;
   bounded = set-keeps (λ o. count_of o ≤ greatest_count) old.objects object None None (zero-least greatest_count) orderly.bounded;
 }
 
