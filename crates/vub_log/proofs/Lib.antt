@@ -1,1 +1,4 @@
 pub mod PageBits
+pub mod Seating
+pub mod Steps
+pub mod Words
