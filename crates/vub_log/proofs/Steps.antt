@@ -277,7 +277,7 @@ harvests_step count slots id me i g inside keeper is s k _ at _ =
       (
         refl,
         subst (λ (l : List HarvestNote). Each (IsHarvested i (harvests_of i l)) v.marks) (sym all)
-        (each_map (MarkHolds s.words k.harvests) (IsHarvested i (harvests_of i now)) (reaped s.words k.harvests i (k.counts i here)) v.marks f.marks),
+            (each_map (MarkHolds s.words k.harvests) (IsHarvested i (harvests_of i now)) (reaped s.words k.harvests i (k.counts i here)) v.marks f.marks),
         refl,
       ),
     )

@@ -100,8 +100,8 @@ NotesHarvest old word bits new =
     (new ≡ record old { notes = with_harvest old.notes (harvest_note word bits) }) × Each (IsHarvested word (harvests_of word new.notes.harvests)) old.notes.marks
 
 -- the word was harvested so often that its generation can't rise
-abbrev pub IsSpentWord : Party → ℕ → Type 0
-IsSpentWord party word = length (harvests_of word party.notes.harvests) ≡ 4294967295
+abbrev pub IsSpentAt : Party → ℕ → Type 0
+IsSpentAt party word = length (harvests_of word party.notes.harvests) ≡ 4294967295
 
 -- a new log of this length with its first seat and its harvester, who have noted nothing
 pub record IsNewLog (bytes : ℕ) (reg : SharedLog) (first keeper : Party) : Type 0 where

@@ -1,6 +1,6 @@
 // The one that harvests a shared log.
 ghost use Rattle.std.specs.Prelude.{◌≡◌, true, [], replicate};
-ghost use Rattle.vub_log.specs.Notes.{NotesMark, NotesLoad, NotesHarvest, IsSpentWord, with_notes};
+ghost use Rattle.vub_log.specs.Notes.{NotesMark, NotesLoad, NotesHarvest, IsSpentAt, with_notes};
 ghost use Rattle.vub_log.specs.Plain.{word_count};
 
 use crate::shared::LogSeat;
@@ -68,7 +68,7 @@ impl DirtyLog for Harvester {
 impl HarvestLog for Harvester {
     ghost harvests = { NotesHarvest };
 
-    ghost spent = { IsSpentWord };
+    ghost spent = { IsSpentAt };
 
     fn harvest(&mut self, word: u64) -> Result<u32, LogError> {
         let place = word as usize;

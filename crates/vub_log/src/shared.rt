@@ -164,7 +164,8 @@ impl LogSeat {
         ensures { NotesHarvest self.old word result self.new }
     {
         let next = (u64::from(generation) + 1) * (1 << 32);
-        let found = self.words
+        let found = self
+            .words
             .shared
             .swap::<HarvestStep>(&mut self.seat, word as usize, next);
         (found % (1 << 32)) as u32
@@ -191,9 +192,7 @@ impl DirtyLog for LogSeat {
 
     fn load(&mut self, byte: u64) -> u8 {
         let word = (byte / 4) as usize;
-        let found = self.words
-            .shared
-            .load::<LoadStep>(&mut self.seat, word);
+        let found = self.words.shared.load::<LoadStep>(&mut self.seat, word);
         let bits = found % (1 << 32);
         ((bits >> (8 * (byte % 4))) % 256) as u8
     }

@@ -8,8 +8,7 @@ load-found-requires c = (search rules, search rules, loads_step _ _ _ _ _ (searc
 
 pub returns-clause-loaded : goal.returns-clause-loaded
 returns-clause-loaded c =
-    let told = c.load-found.ensures.2 in
-    (
+    let told = c.load-found.ensures.2 in (
       bits_of c.load-found.result,
       generation_of c.load-found.result,
       rw (← c.self.view_is) (λ z. record { log = c.load-found.ensures.0 z; len = c.self.inside.len; notes = told.0 z }),
