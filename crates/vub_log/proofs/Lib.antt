@@ -1,4 +1,4 @@
-pub mod PageBits
+pub mod Holding
 pub mod Seating
 pub mod Steps
 pub mod Words

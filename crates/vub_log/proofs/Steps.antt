@@ -147,7 +147,7 @@ mark_changes count s k i b v inside low = let wide = k.wide in
       counts = λ e. same ∙ e;
     }
 
-page_is : (p : ℕ) → 32 * (p / 32) + p % 32 ≡ p
+pub page_is : (p : ℕ) → 32 * (p / 32) + p % 32 ≡ p
 page_is p = let e = div-add-mod' p 32 in omega arith
 
 pub marks_step : (count slots id : ℕ) (me : Me ℕ Notes) (page : ℕ) → page / 32 < count

@@ -1,6 +1,7 @@
 -- The plain log: its words of 32 pages, and how often each was harvested.
-use Rattle.std.specs.Prelude.{ℕ, ◌+◌, ◌*◌, ◌/◌, ◌%◌, ◌^◌, List, replicate, slice_index, slice_set, bit_or}
+use Rattle.std.specs.Prelude.{◌≡◌, ℕ, ◌+◌, ◌*◌, ◌/◌, ◌%◌, ◌^◌, ◌<◌, List, length, replicate, slice_index, slice_set, bit_or}
 use Rattle.std.specs.Int.{bit_at}
+use Rattle.vub_mem.specs.LogBits.{LogBits}
 
 pub record Plain : Type 0 where
   pub len : ℕ
@@ -38,3 +39,20 @@ byte_of log byte = word_of log (byte / 4) / 2 ^ (8 * (byte % 4)) % 256
 -- the log after a harvest of a word
 abbrev pub harvested : Plain → ℕ → Plain
 harvested log word = record log { words = slice_set log.words word 0; counts = slice_set log.counts word (harvest_count log word + 1) }
+
+-- what the log tells: the bit of each page, and how often each word was harvested
+abbrev pub told_bits : Plain → LogBits
+told_bits log = record { bit = λ page. page_bit log page; harvests = λ word. harvest_count log word }
+
+-- a mark of a page that the log has
+pub record IsMark (old : Plain) (page : ℕ) (new : Plain) : Type 0 where
+  pub within : page < 32 * length old.words
+  pub after : new ≡ marked old page
+
+-- a harvest of a word that the log has and that is not spent
+pub record IsHarvest (old : Plain) (word bits : ℕ) (new : Plain) : Type 0 where
+  pub within : word < length old.words
+  pub counted : word < length old.counts
+  pub left : harvest_count old word < 4294967295
+  pub gives : bits ≡ word_of old word
+  pub after : new ≡ harvested old word

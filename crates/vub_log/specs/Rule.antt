@@ -1,5 +1,5 @@
 -- The rule that every step on a shared log's words keeps, and what each kind of step tells the party that makes it.
-use Rattle.std.specs.Prelude.{◌≡◌, ℕ, ◌+◌, ◌*◌, ◌/◌, ◌%◌, ◌^◌, ◌<◌, ◌≤◌, true, false, List, [], length, slice_index}
+use Rattle.std.specs.Prelude.{◌≡◌, ◌↔◌, ℕ, ◌+◌, ◌*◌, ◌/◌, ◌%◌, ◌^◌, ◌<◌, ◌≤◌, true, false, List, [], length, slice_index}
 use Rattle.std.specs.Int.{bit_at}
 use mathlib.Core.Option.{some}
 use lib.ListN.{get_elem?}
@@ -74,3 +74,15 @@ abbrev pub TellsHarvest : Step ℕ → Me ℕ Notes → ℕ → Me ℕ Notes →
 TellsHarvest st me n new =
     (new.0 ≡ with_harvest me.0 (harvest_note st.word (bits_of n)))
     × Each (IsHarvested st.word (harvests_of st.word new.0.harvests)) me.0.marks × (new.1 ≡ me.1)
+
+-- whatever the words' state is: a mark holds exactly where some party noted it
+abbrev pub HoldWhereNoted : Type 0
+HoldWhereNoted = (count : ℕ) (s : State ℕ Notes) (kept : Kept count s) (m : MarkNote) → IsNoted s.views m ↔ MarkHolds s.words kept.harvests m
+
+-- and each load that some party noted showed bits that hold
+abbrev pub LoadsHold : Type 0
+LoadsHold = (count : ℕ) (s : State ℕ Notes) (kept : Kept count s) (j : ℕ) (v : Notes) (l : LoadNote) → get_elem? s.views j ≡ some v → IsIn l v.loads → LoadHolds s.words kept.harvests l
+
+-- and each word's generation is the number of its harvests
+abbrev pub CountHarvests : Type 0
+CountHarvests = (count : ℕ) (s : State ℕ Notes) (kept : Kept count s) (w : ℕ) → w < count → generation_of (slice_index s.words w) ≡ length (harvests_of w kept.harvests)

@@ -1,5 +1,5 @@
 // The one that harvests a shared log.
-ghost use Rattle.std.specs.Prelude.{◌≡◌, true, [], replicate};
+ghost use Rattle.std.specs.Prelude.{◌≡◌, None, true, [], replicate};
 ghost use Rattle.vub_log.specs.Notes.{NotesMark, NotesLoad, NotesHarvest, IsSpentAt, with_notes};
 ghost use Rattle.vub_log.specs.Plain.{word_count};
 
@@ -48,9 +48,15 @@ impl Harvester {
 impl DirtyLog for Harvester {
     ghost byte_len = { λ harvester. harvester.len };
 
+    ghost log_bits = { λ _. None };
+
     ghost marks = { NotesMark };
 
     ghost loads = { NotesLoad };
+
+    ghost marks_its_page = { λ old page new has goes. tt };
+
+    ghost loads_its_byte = { λ old byte number new has goes. tt };
 
     fn len(&self) -> u64 {
         self.seat.len()
@@ -69,6 +75,10 @@ impl HarvestLog for Harvester {
     ghost harvests = { NotesHarvest };
 
     ghost spent = { IsSpentAt };
+
+    ghost harvests_its_word = { λ old word number new has goes. tt };
+
+    ghost spends_its_word = { λ harvester word has. tt };
 
     fn harvest(&mut self, word: u64) -> Result<u32, LogError> {
         let place = word as usize;

@@ -10,7 +10,7 @@ mod rule;
 mod shared;
 
 pub use harvester::Harvester;
-pub use laws::{LogOp, bytes_hold_the_bits, pages_stand_since_harvest};
+pub use laws::{LogOp, bytes_hold_the_bits, notes_hold, pages_stand_since_harvest};
 pub use notes::{HarvestNote, LoadNote, MarkNote, Notes};
 pub use plain::PlainLog;
 pub use shared::{LogSeat, MmapLogReg};

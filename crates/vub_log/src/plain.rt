@@ -1,5 +1,5 @@
-ghost use Rattle.std.specs.Prelude.{◌≡◌, ◌↔◌, ◌⊎◌, ◌^◌, ◌≤◌, IfOk, IfErr};
-ghost use Rattle.vub_log.specs.Plain.{fresh, marked, byte_of, harvested, harvest_count, word_of};
+ghost use Rattle.std.specs.Prelude.{◌≡◌, ◌↔◌, ◌⊎◌, ◌^◌, ◌≤◌, Some, IfOk, IfErr};
+ghost use Rattle.vub_log.specs.Plain.{fresh, byte_of, harvest_count, told_bits, IsMark, IsHarvest};
 
 use std::alloc::Global;
 use std::marker::Model;
@@ -57,9 +57,17 @@ impl PlainLog {
 impl DirtyLog for PlainLog {
     ghost byte_len = { λ log. log.len };
 
-    ghost marks = { λ old page new. new ≡ marked old page };
+    ghost log_bits = { λ log. Some (told_bits log) };
+
+    ghost marks = { IsMark };
 
     ghost loads = { λ old byte bits new. (bits ≡ byte_of old byte) × (new ≡ old) };
+
+    ghost use Rattle.vub_log.specs.Tells.{told_mark, told_load};
+
+    ghost marks_its_page = { told_mark };
+
+    ghost loads_its_byte = { told_load };
 
     fn len(&self) -> u64 {
         self.len
@@ -77,9 +85,15 @@ impl DirtyLog for PlainLog {
 }
 
 impl HarvestLog for PlainLog {
-    ghost harvests = { λ old word bits new. (bits ≡ word_of old word) × (new ≡ harvested old word) };
+    ghost harvests = { IsHarvest };
 
     ghost spent = { λ log word. harvest_count log word ≡ 4294967295 };
+
+    ghost use Rattle.vub_log.specs.Tells.{told_harvest, told_spent};
+
+    ghost harvests_its_word = { told_harvest };
+
+    ghost spends_its_word = { told_spent };
 
     fn harvest(&mut self, word: u64) -> Result<u32, LogError> {
         let place = word as usize;

@@ -1,5 +1,5 @@
 // A log on atomic words, which parties mark and one harvests at once, with no lock.
-ghost use Rattle.std.specs.Prelude.{◌≡◌, ◌↔◌, ◌⊎◌, ◌*◌, ◌^◌, ◌<◌, ◌≤◌, true, length, IfOk, IfErr, OnErr};
+ghost use Rattle.std.specs.Prelude.{◌≡◌, ◌↔◌, ◌⊎◌, ◌*◌, ◌^◌, ◌<◌, ◌≤◌, None, true, length, IfOk, IfErr, OnErr};
 ghost use Rattle.vub_log.specs.Notes.{NotesMark, NotesLoad, NotesHarvest, IsNewLog, harvests_of, with_notes, without_harvests};
 
 use crate::harvester::Harvester;
@@ -175,9 +175,15 @@ impl LogSeat {
 impl DirtyLog for LogSeat {
     ghost byte_len = { λ seat. seat.len };
 
+    ghost log_bits = { λ _. None };
+
     ghost marks = { NotesMark };
 
     ghost loads = { NotesLoad };
+
+    ghost marks_its_page = { λ old page new has goes. tt };
+
+    ghost loads_its_byte = { λ old byte number new has goes. tt };
 
     fn len(&self) -> u64 {
         self.len

@@ -118,7 +118,9 @@ fn memory<L: DirtyLog>(
 ) -> Result<GuestMemory<L>, Fail> {
     let mut memory = GuestMemory::new(alloc);
     memory.put_object(7, Bytes::from_vec(vec![in alloc; 0u8; 0x10000]?))?;
-    memory.put_log(3, log)?;
+    if !memory.has_log(3) {
+        memory.put_log(3, log)?;
+    }
     if 0 < len {
         memory.insert_region(region(start, len))?;
     }

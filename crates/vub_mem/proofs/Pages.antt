@@ -1,12 +1,12 @@
 -- Every page that a range meets in a region with a log is marked, and a log that tells its bits shows it.
-use Rattle.std.proofs.Common.{◌≡◌, ℕ, zero, suc, ◌+◌, ◌-◌, ◌*◌, ◌/◌, ◌%◌, ◌<◌, ◌≤◌, ◌⊎◌, inl, inr, Bool, true, List, [], ◌∷◌, ◌++◌, Option, Some, refl, sym, ap, subst, ◌∙◌, arith, max, eqb, ltb, leb, flat_map, MatchBool}
+use Rattle.std.proofs.Common.{◌≡◌, ℕ, zero, suc, ◌+◌, ◌-◌, ◌*◌, ◌/◌, ◌%◌, ◌<◌, ◌≤◌, ◌⊎◌, ◌↔◌, inl, inr, Bool, true, List, [], ◌∷◌, ◌++◌, Option, Some, None, refl, sym, ap, subst, ◌∙◌, arith, max, eqb, ltb, leb, flat_map, MatchBool}
 use Rattle.std.specs.List.{range_with_len, AllByRecursion}
-use Rattle.std.proofs.lemmas.Bool.{cases_Bool, cases_lt, and_parts, and_from, cond-false, eqb-true, le-leb, lt-ltb, leb-true, ltb-true}
+use Rattle.std.proofs.lemmas.Bool.{cases_Bool, cases_lt, and_parts, and_from, cond-true, cond-false, eqb-true, eqb-false, le-leb, lt-ltb, leb-true, ltb-true}
 use Rattle.std.proofs.lemmas.List.Concat.{flat_map-cons}
 use Rattle.vub_mem.specs.declared.dirty.Stored.{Stored}
 use Rattle.vub_mem.specs.declared.region.Region.{Region}
 use Rattle.vub_mem.specs.declared.region.AtomicBitmapMmap.{AtomicBitmapMmap}
-use Rattle.vub_mem.specs.Laws.{IsIn, IsShown}
+use Rattle.vub_mem.specs.Laws.{IsIn, IsShown, MeetsPage}
 use Rattle.vub_mem.specs.Logs.{ChangesOne, HoldsOf}
 use Rattle.vub_mem.specs.Marks.{Mark, MarksAll, page_marks, mark_at, mark_of, mark_in, marks_of, page_count}
 use Rattle.vub_mem.specs.Place.{region_of}
@@ -111,3 +111,52 @@ shown len marks shows is old new (x ∷ xs) h m known =
       ]
       | inr was ↦ shown len marks shows is h.0 new xs h.2 m (inr (change_keeps_fact (λ a b. page_marks len marks a x.page b) (λ log. shows log m.page ≡ true) old h.0 x.object m.object (λ a b made there. is.keeps a x.page b m.page made.marked there) h.1 was))
     ]
+
+in_parts : {X : Type 0} → (x : X) (xs ys : List X) → IsIn x (xs ++ ys) → IsIn x xs ⊎ IsIn x ys
+in_parts x [] ys h = inr h
+in_parts x (z ∷ zs) ys h = elim h [ inl e ↦ inl (inl e) | inr t ↦ elim (in_parts x zs ys t) [ inl i ↦ inl (inr i) | inr i ↦ inr i ] ]
+
+from_flat : {X : Type 0} → (f : ℕ → List X) (x : X) (a n : ℕ) → IsIn x (flat_map f (range_with_len a n)) → (q : ℕ) × (a ≤ q) × (q < a + n) × IsIn x (f q)
+from_flat f x a zero h = absurd h
+from_flat f x a (suc n) h =
+    elim (in_parts x (f a) (flat_map f (range_with_len (a + 1) n)) (subst (λ l. IsIn x l) (flat_map-cons f a (range_with_len (a + 1) n)) h)) [
+      | inl here ↦ (a, omega arith, omega arith, here)
+      | inr later ↦ (let found = from_flat f x (a + 1) n later in let low : a + 1 ≤ found.0 = found.1 in let high : found.0 < a + 1 + n = found.2 in (found.0, omega arith, omega arith, found.3))
+    ]
+
+-- the mark of an address whose region has a log
+met_in : (rs : List Region) (a n k : ℕ) (m : Mark) → k < n → (r : Region) → region_of rs (a + k) ≡ Some r → (o : Option AtomicBitmapMmap) → r.log ≡ o → IsIn m (mark_in o (a + k)) → MeetsPage rs a n m
+met_in rs a n k m small r is None has h = absurd h
+met_in rs a n k m small r is (Some l) has h =
+    elim h [
+      | inl e ↦ record { behind = k; region = r; log = l; within = small; lies = is; logged = has; is = sym e }
+      | inr none ↦ absurd none
+    ]
+
+met_at : (rs : List Region) (a n k : ℕ) (m : Mark) → k < n → (o : Option Region) → region_of rs (a + k) ≡ o → IsIn m (mark_of o (a + k)) → MeetsPage rs a n m
+met_at rs a n k m small None is h = absurd h
+met_at rs a n k m small (Some r) is h = met_in rs a n k m small r is r.log refl h
+
+count_less : (a n q : ℕ) → a / 4096 ≤ q → q < a / 4096 + page_count a n → max a (4096 * q) - a < n
+count_less a n q low high =
+    elim (cases_Bool (eqb n 0)) [
+      | inl t ↦ absurd (let none : page_count a n ≡ 0 = cond-true (eqb n 0) 0 ((a + n - 1) / 4096 - a / 4096 + 1) t in omega arith)
+      | inr f ↦ (let some : n ≡ 0 → ⊥ = eqb-false n 0 f in
+          let more : 0 < n = omega arith in
+          let count : page_count a n ≡ (a + n - 1) / 4096 - a / 4096 + 1 = cond-false (eqb n 0) 0 ((a + n - 1) / 4096 - a / 4096 + 1) f in
+          let last : q ≤ (a + n - 1) / 4096 = omega arith in
+          omega arith)
+    ]
+
+-- the marks of a range are those of the pages that it meets in regions with a log
+met_only : (rs : List Region) (a n : ℕ) (m : Mark) → IsIn m (marks_of rs a n) → MeetsPage rs a n m
+unfolding marks_of mark_at
+met_only rs a n m h =
+    let found = from_flat (λ p. mark_of (region_of rs (max a (4096 * p))) (max a (4096 * p))) m (a / 4096) (page_count a n) h in
+    let at : ℕ = max a (4096 * found.0) in
+    let behind : a + (at - a) ≡ at = omega arith in
+    met_at rs a n (at - a) m (count_less a n found.0 found.1 found.2) (region_of rs (a + (at - a))) refl
+    (subst (λ x. IsIn m (mark_of (region_of rs x) x)) (sym behind) found.3)
+
+pub marks_met : (rs : List Region) → IsApart rs → AllByRecursion IsBounded rs → (a n : ℕ) (m : Mark) → IsIn m (marks_of rs a n) ↔ MeetsPage rs a n m
+marks_met rs apart bounded a n m = (met_only rs a n m, (λ meets. subst (λ y. IsIn y (marks_of rs a n)) (sym meets.is) (met_page rs apart bounded a n meets.behind meets.region meets.log meets.within meets.lies meets.logged)))

@@ -1,5 +1,5 @@
 -- Laws of writes: what they leave alone, and which pages they mark.
-use Rattle.std.specs.Prelude.{◌≡◌, ℕ, ◌+◌, ◌-◌, ◌*◌, ◌/◌, ◌<◌, ◌⊎◌, Bool, true, List, [], ◌∷◌, length, Option, Some, None, slice_index}
+use Rattle.std.specs.Prelude.{◌≡◌, ℕ, ◌+◌, ◌-◌, ◌*◌, ◌/◌, ◌<◌, ◌⊎◌, ◌↔◌, Bool, true, List, [], ◌∷◌, length, Option, Some, None, slice_index}
 use Rattle.vub_mem.specs.declared.dirty.Stored.{Stored}
 use Rattle.vub_mem.specs.declared.region.AtomicBitmapMmap.{AtomicBitmapMmap}
 use Rattle.vub_mem.specs.declared.region.Region.{Region}
@@ -40,6 +40,20 @@ IsIn x (y ∷ ys) = (y ≡ x) ⊎ IsIn x ys
 -- every page of 4096 guest bytes that a range meets in a region with a log is among the marks of the range
 abbrev pub MarksEachPage : List Region → Type 0
 MarksEachPage rs = (a n k : ℕ) (r : Region) (l : AtomicBitmapMmap) → k < n → region_of rs (a + k) ≡ Some r → r.log ≡ Some l → IsIn (record { object = l.object; page = 8 * l.offset + (a + k) / 4096 }) (marks_of rs a n)
+
+-- some address of the range lies in a region with a log, and the mark is of its page in that log
+pub record MeetsPage (rs : List Region) (a n : ℕ) (m : Mark) : Type 0 where
+  pub behind : ℕ
+  pub region : Region
+  pub log : AtomicBitmapMmap
+  pub within : behind < n
+  pub lies : region_of rs (a + behind) ≡ Some region
+  pub logged : region.log ≡ Some log
+  pub is : m ≡ record { object = log.object; page = 8 * log.offset + (a + behind) / 4096 }
+
+-- the marks of a range are those of the pages that it meets in regions with a log, and no others
+abbrev pub MarksMetPages : List Region → Type 0
+MarksMetPages rs = (a n : ℕ) (m : Mark) → IsIn m (marks_of rs a n) ↔ MeetsPage rs a n m
 
 -- what a log shows of a page: a mark sets it, and no mark takes it away
 pub record IsShown {L : Type 0} (marks : L → ℕ → L → Type 0) (shows : L → ℕ → Bool) : Type 0 where

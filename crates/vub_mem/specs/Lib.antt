@@ -3,10 +3,12 @@ pub mod Bits
 pub mod Faults
 pub mod Found
 pub mod Laws
+pub mod LogBits
 pub mod Logs
 pub mod Mappings
 pub mod Marks
 pub mod Memory
+pub mod NoPage
 pub mod Place
 pub mod PlaceAt
 pub mod Sound

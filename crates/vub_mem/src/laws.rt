@@ -1,4 +1,4 @@
-ghost use Rattle.vub_mem.specs.Laws.{WritesKeepRest, WritesKeepShape, MarksEachPage, MarksShow};
+ghost use Rattle.vub_mem.specs.Laws.{WritesKeepRest, WritesKeepShape, MarksEachPage, MarksMetPages, MarksShow};
 
 use crate::dirty::DirtyLog;
 use crate::memory::GuestMemory;
@@ -18,6 +18,14 @@ pub fn writes_keep_the_shape()
 /// range.
 pub fn every_met_page_has_a_mark<L: DirtyLog>(memory: &GuestMemory<L>)
     ensures { MarksEachPage memory.now.guest.regions }
+{
+    let _regions = memory.regions();
+}
+
+/// Law: in each memory a mark is among the marks of a range exactly where some address of the range lies in a region with
+/// that log, and in that page.
+pub fn marks_are_of_met_pages<L: DirtyLog>(memory: &GuestMemory<L>)
+    ensures { MarksMetPages memory.now.guest.regions }
 {
     let _regions = memory.regions();
 }

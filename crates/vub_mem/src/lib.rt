@@ -25,7 +25,8 @@ pub use content::Content;
 pub use dirty::{DirtyLog, HarvestLog, Stored};
 pub use errors::{LogError, MemError};
 pub use laws::{
-    every_met_page_has_a_mark, marks_are_shown, writes_keep_the_rest, writes_keep_the_shape,
+    every_met_page_has_a_mark, marks_are_of_met_pages, marks_are_shown, writes_keep_the_rest,
+    writes_keep_the_shape,
 };
 pub use mapping::{Mapping, va_to_gpa};
 pub use memory::GuestMemory;

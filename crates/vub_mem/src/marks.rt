@@ -30,6 +30,20 @@ pub(crate) fn log_place<L: DirtyLog>(logs: &[Stored<L>], object: u32) -> Option<
     }
 }
 
+fn any_log<L: DirtyLog>(logs: &[Stored<L>], object: u32) -> bool
+    ensures { result ≡ list_any (λ s. s.object == object) logs.now }
+{
+    logs.iter().any(|s| s.object == object)
+}
+
+/// Whether a log has this number.
+pub(crate) fn is_log<L: DirtyLog>(logs: &[Stored<L>], object: u32) -> bool
+    ensures value { result ≡ list_any (λ s. s.object == object) logs.now }
+    ensures absent { result ≡ false → AllByRecursion (λ s. s.object ≢ object) logs.now }
+{
+    if any_log(logs, object) { true } else { false }
+}
+
 /// A byte of the log with this number, which has it.
 pub(crate) fn load_log<L: DirtyLog>(logs: &mut [Stored<L>], object: u32, byte: u64) -> u8
     requires { byte < log_len L.byte_len logs.old object }

@@ -7,7 +7,7 @@ use crate::content::Content;
 use crate::dirty::{DirtyLog, HarvestLog, Stored};
 use crate::errors::{LogError, MemError};
 use crate::harvests::harvest_log;
-use crate::marks::{load_log, log_bytes, mark_range, test_log};
+use crate::marks::{is_log, load_log, log_bytes, mark_range, test_log};
 use crate::place::Place;
 use crate::places::{
     content_bytes, covers_range, is_content, locate_range, place_in, read_range, store_content,
@@ -152,6 +152,14 @@ impl<L: DirtyLog> GuestMemory<L> {
         is_content(&self.contents, object)
     }
 
+    /// Whether a log has this number.
+    pub fn has_log(&self, object: u32) -> bool
+        ensures value { result ≡ list_any (λ s. s.object == object) self.now.logs }
+        ensures absent { result ≡ false → AllByRecursion (λ s. s.object ≢ object) self.now.logs }
+    {
+        is_log(&self.logs, object)
+    }
+
     /// How many bytes the log with this number has, and 0 where there is none.
     pub fn log_len(&self, object: u32) -> u64
         ensures value { result ≡ log_len L.byte_len self.now.logs object }
@@ -210,7 +218,7 @@ impl<L: DirtyLog> GuestMemory<L> {
         }
     }
 
-    /// Puts a log under a number that no log has.
+    /// Puts a log under a number that no log has, as [`GuestMemory::has_log`] tells.
     ///
     /// # Errors
     /// Want of memory alone.
