@@ -25,18 +25,18 @@ member-with : (ms : List Member) (n : Member) → is_some (member_of (with_membe
 member-with [] n = grind (arith, nat_tests)
 member-with (m ∷ ms) n = grind (arith, nat_tests, member-with ms n)
 
-record Allowed (both upper member : Bool) : Type 0 where
-  there : both ≡ true
-  plain : upper ≡ false
-  absent : member ≡ false
+pub record Allowed (both upper member : Bool) : Type 0 where
+  pub there : both ≡ true
+  pub plain : upper ≡ false
+  pub absent : member ≡ false
 
-allowed : (both upper member : Bool) → (if not both then Some EBADF else if upper then Some EINVAL else if member then Some EEXIST else None) ≡ None → Allowed both upper member
+pub allowed : (both upper member : Bool) → (if not both then Some EBADF else if upper then Some EINVAL else if member then Some EEXIST else None) ≡ None → Allowed both upper member
 allowed false upper member is = absurd cc
 allowed true true member is = absurd cc
 allowed true false true is = absurd cc
 allowed true false false is = record { there = refl; plain = refl; absent = refl }
 
-both-list : (a b : Bool) → (a && b) ≡ true → (a ≡ true) × (b ≡ true)
+pub both-list : (a b : Bool) → (a && b) ≡ true → (a ≡ true) × (b ≡ true)
 both-list true true is = (refl, refl)
 both-list true false is = (refl, is)
 both-list false b is = absurd cc

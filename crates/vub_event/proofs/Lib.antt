@@ -1,6 +1,8 @@
 pub mod AddLaws
+pub mod ByObject
 pub mod CounterLaws
 pub mod Mapping
+pub mod Orderly
 pub mod Placing
 pub mod Refusing
 pub mod Reporting

@@ -5,5 +5,6 @@ pub mod HostCalls
 pub mod HostTable
 pub mod InterestList
 pub mod Laws
+pub mod Orderly
 pub mod Place
 pub mod Plan

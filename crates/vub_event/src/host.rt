@@ -1,8 +1,9 @@
-ghost use Rattle.std.specs.Prelude.{◌≡◌, ◌^◌, ◌<◌, ℕ, Option, [], ◌∷◌};
+ghost use Rattle.std.specs.Prelude.{◌≡◌, ◌^◌, ◌<◌, ℕ, Option, [], ◌∷◌, IfSome};
 ghost use Rattle.vub_base.specs.Told.{Told};
 ghost use Rattle.vub_event.specs.Errors.{RefusesBy};
 ghost use Rattle.vub_event.specs.Faults.{CountsFaults};
 ghost use Rattle.vub_event.specs.HostTable.{HostTable};
+ghost use Rattle.vub_event.specs.Orderly.{IsOrderly};
 ghost use Rattle.vub_event.specs.HostCalls.{member_for, CreateEventCall, CreateListCall, SignalCall, ConsumeCall, AddCall, ModifyCall, DeleteCall, ListenCall, UnlistenCall, ConsumeAsCall, ReadyCall, ReadyManyCall, ClaimCall, release_after, hang_up_after, close_after};
 
 use crate::error::HostError;
@@ -28,8 +29,12 @@ pub trait Host: Drop {
     ghost never_fails: { Self → Type 0 };
 
     /// The count of the host's faults, which no call lets fall. It stands still once it is 2^64 - 1.
+    ///
+    /// It also gives what always holds of a told table: the members of each list stand in order of their objects and
+    /// none twice, the object of each is there, and no count passes 2^64 - 2.
     fn faults(&self) -> u64
-        ensures { result ≡ fault_count self.now };
+        ensures value { result ≡ fault_count self.now }
+        ensures orderly { IfSome (held self.now) IsOrderly };
 
     /// A new event object with count 0. Its number is the least that was never given, from 0 on. The bits of `flags`
     /// are those of eventfd(2): SEMAPHORE 1, NONBLOCK 0x800 and CLOEXEC 0x80000.

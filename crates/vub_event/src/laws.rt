@@ -4,6 +4,7 @@ ghost use Rattle.vub_base.specs.Told.{Told};
 ghost use Rattle.vub_event.specs.Errors.{RefusesBy};
 ghost use Rattle.vub_event.specs.Faults.{CountsFaults};
 ghost use Rattle.vub_event.specs.HostCalls.{member_for};
+ghost use Rattle.vub_event.specs.Orderly.{ReportsByObject};
 ghost use Rattle.vub_event.specs.Laws.{AddsAndDeletes, AddsTwice, WritesAndReads, passed_over, WritesOne, WritesAllAndReads};
 
 use crate::error::HostError;
@@ -111,3 +112,9 @@ pub fn writes_then_read<H: Host>(
     }
     host.consume(object)
 }
+
+/// Law: of a host that tells its table, as [`Host::faults`] gives it, [`Host::ready_many`] answers its reports in order of
+/// their objects, and of no object two.
+pub fn reports_stand_by_object()
+    ensures { ReportsByObject }
+{}

@@ -1,9 +1,11 @@
+ghost use Rattle.std.proofs.Props.{props};
 ghost use Rattle.std.specs.Prelude.{◌≡◌, ℕ, [], ◌∷◌, Some, IfOk, IsOk, slice_get};
 ghost use Rattle.vub_base.specs.Told.{Told};
 ghost use Rattle.vub_event.specs.Errors.{RefusesBy};
 ghost use Rattle.vub_event.specs.Faults.{CountsFaults};
 ghost use Rattle.vub_event.specs.HostTable.{empty_table, event_at, members_at};
 ghost use Rattle.vub_event.specs.HostCalls.{member_for, CreateEventCall, CreateListCall, SignalCall, ConsumeCall, AddCall, ModifyCall, DeleteCall, ListenCall, UnlistenCall, ConsumeAsCall, FirstReadyCall, ReadyCall, ReadyManyCall, ClaimCall, release_after, hang_up_after, close_after};
+ghost use Rattle.vub_event.specs.Orderly.{IsOrderly, IsOrdered-prop};
 ghost use Rattle.vub_event.specs.Plan.{GoesByPlan};
 
 use crate::error::HostError;
@@ -22,6 +24,7 @@ use vub_base::OutOfMemory;
 pub struct MemHost {
     table: EventTable,
     plan: FaultPlan,
+    ghost orderly: { IsOrderly table } by { Prim.hlevel (props, IsOrdered-prop) },
 }
 
 impl MemHost {

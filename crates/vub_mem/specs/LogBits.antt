@@ -1,6 +1,7 @@
 -- What a log of dirty pages may tell, and what each of its calls does to it.
-use Rattle.std.specs.Prelude.{◌≡◌, ◌≢◌, ℕ, ◌+◌, ◌*◌, ◌/◌, ◌<◌, Result, Ok, Err}
+use Rattle.std.specs.Prelude.{◌≡◌, ◌≢◌, ◌↔◌, ℕ, ◌+◌, ◌*◌, ◌/◌, ◌<◌, Option, IfSome, Result, Ok, Err}
 use Rattle.std.specs.Int.{bit_at}
+use Rattle.vub_base.specs.Told.{Told}
 use Rattle.vub_mem.specs.declared.errors.LogError.{LogError}
 use Rattle.vub_mem.specs.declared.errors.LogError.TheVariants.{EmptyLog, PastObject, NotPageAligned, TooSmall, Unsupported, GenerationsSpent, OutOfMemory}
 
@@ -47,3 +48,25 @@ HarvestsWord word (Err OutOfMemory) old new = ⊥
 -- the bits of a log in which no page is marked and no word was harvested
 abbrev pub no_bits : LogBits
 no_bits = record { bit = λ page. 0; harvests = λ word. 0 }
+
+-- where the bits are told, each mark of a page that a log has sets its bit, and changes nothing else
+abbrev pub MarksTold : {L : Type 0} → (L → ℕ) → (L → Option LogBits) → (L → ℕ → L → Type 0) → Type 0
+MarksTold {L} len told marks =
+    (old : L) (page : ℕ) (new : L) → page < 8 * len old → marks old page new → Told (told old) (told new) (MarksPage page)
+
+-- where the bits are told, each load of a byte that a log has gives its bits, and changes nothing
+abbrev pub LoadsTold : {L : Type 0} → (L → ℕ) → (L → Option LogBits) → (L → ℕ → ℕ → L → Type 0) → Type 0
+LoadsTold {L} len told loads =
+    (old : L) (byte number : ℕ) (new : L) → byte < len old → loads old byte number new
+    → Told (told old) (told new) (LoadsByte byte number)
+
+-- where the bits are told, each harvest that is made of a word that a log has is as its definition says
+abbrev pub HarvestsTold : {L : Type 0} → (L → ℕ) → (L → Option LogBits) → (L → ℕ → ℕ → L → Type 0) → Type 0
+HarvestsTold {L} len told harvests =
+    (old : L) (word number : ℕ) (new : L) → 4 * word < len old → harvests old word number new
+    → Told (told old) (told new) (HarvestsWord word (Ok number))
+
+-- where the counts are told, a word that a log has is spent exactly where its count is 4294967295
+abbrev pub SpentTold : {L : Type 0} → (L → ℕ) → (L → Option LogBits) → (L → ℕ → Type 0) → Type 0
+SpentTold {L} len told spent =
+    (log : L) (word : ℕ) → 4 * word < len log → IfSome (told log) (λ bits. spent log word ↔ IsSpentWord word bits)

@@ -1,6 +1,6 @@
-ghost use Rattle.std.specs.Prelude.{◌≡◌, ◌↔◌, ℕ, ◌*◌, ◌<◌, ◌^◌, Option, Some, Ok, IfSome, IfOk, IfErr, OnErr};
+ghost use Rattle.std.specs.Prelude.{◌≡◌, ◌↔◌, ℕ, ◌*◌, ◌<◌, ◌^◌, Option, Some, IfOk, IfErr, OnErr};
 ghost use Rattle.vub_base.specs.Told.{Told};
-ghost use Rattle.vub_mem.specs.LogBits.{LogBits, MarksPage, LoadsByte, HarvestsWord, IsSpentWord, no_bits};
+ghost use Rattle.vub_mem.specs.LogBits.{LogBits, MarksPage, LoadsByte, HarvestsWord, MarksTold, LoadsTold, HarvestsTold, SpentTold, no_bits};
 
 use crate::errors::LogError;
 
@@ -42,10 +42,10 @@ pub trait DirtyLog: Drop {
         ensures len { byte_len self.new ≡ byte_len self.old };
 
     // law: where the bits are told, a mark of a page that the log has sets its bit, and changes nothing else
-    ghost marks_its_page: { (old : Self) (page : ℕ) (new : Self) → page < 8 * byte_len old → marks old page new → Told (log_bits old) (log_bits new) (MarksPage page) };
+    ghost marks_its_page: { MarksTold byte_len log_bits marks };
 
     // law: where the bits are told, a load of a byte that the log has gives its bits, and changes nothing
-    ghost loads_its_byte: { (old : Self) (byte number : ℕ) (new : Self) → byte < byte_len old → loads old byte number new → Told (log_bits old) (log_bits new) (LoadsByte byte number) };
+    ghost loads_its_byte: { LoadsTold byte_len log_bits loads };
 }
 
 /// A log of dirty pages whose words are harvested: word `w` holds pages `32 * w` to `32 * w + 31`, page `p` as bit
@@ -74,10 +74,10 @@ pub trait HarvestLog: DirtyLog {
         ensures len { Self.byte_len self.new ≡ Self.byte_len self.old };
 
     // law: where the bits are told, a harvest that is made is as its definition says
-    ghost harvests_its_word: { (old : Self) (word number : ℕ) (new : Self) → 4 * word < Self.byte_len old → harvests old word number new → Told (Self.log_bits old) (Self.log_bits new) (HarvestsWord word (Ok number)) };
+    ghost harvests_its_word: { HarvestsTold Self.byte_len Self.log_bits harvests };
 
     // law: where the counts are told, a word is spent exactly where its count is 4294967295
-    ghost spends_its_word: { (log : Self) (word : ℕ) → 4 * word < Self.byte_len log → IfSome (Self.log_bits log) (λ told. spent log word ↔ IsSpentWord word told) };
+    ghost spends_its_word: { SpentTold Self.byte_len Self.log_bits spent };
 }
 
 /// A numbered log.

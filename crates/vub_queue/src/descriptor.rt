@@ -5,7 +5,7 @@ pub struct Descriptor {
     pub addr: u64,
     /// How many bytes the segment has.
     pub len: u32,
-    /// NEXT 1, WRITE 2, INDIRECT 4.
+    /// Bits of `VIRTQ_DESC_F_NEXT`, `VIRTQ_DESC_F_WRITE` and `VIRTQ_DESC_F_INDIRECT`.
     pub flags: u16,
     /// The number of the next descriptor, where NEXT is set.
     pub next: u16,

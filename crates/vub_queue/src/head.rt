@@ -2,6 +2,7 @@ ghost use Rattle.std.specs.Prelude.{◌≡◌};
 ghost use Rattle.vub_queue.specs.Take.{head_of};
 
 use crate::damage::Damage;
+use crate::layout::avail_slot_place;
 use crate::queue::Queue;
 use vub_mem::{DirtyLog, GuestMemory};
 
@@ -30,7 +31,7 @@ pub(crate) fn next_head<L: DirtyLog>(memory: &GuestMemory<L>, queue: &Queue) -> 
         return Head::Empty;
     }
     let slot = queue.next_avail() % queue.size();
-    match memory.locate(at.avail, 4 + 2 * slot as u64, 2) {
+    match memory.locate(at.avail, avail_slot_place(slot), 2) {
         None => Head::Broken(Damage::RingOutside),
         Some(word) => Head::At(memory.u16_at(word)),
     }

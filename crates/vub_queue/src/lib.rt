@@ -10,6 +10,7 @@ mod error;
 mod head;
 mod indexes;
 mod laws;
+mod layout;
 mod notification;
 mod publishing;
 mod putting;
@@ -28,6 +29,10 @@ pub use laws::{
     chain_fails_no_test, empty_where_none_is_left, entry_stands_in_its_slot, head_has_one_chain,
     put_changes_only_its_places, take_changes_nothing, take_changes_only_avail_event,
     take_has_an_answer, take_has_one_answer,
+};
+pub use layout::{
+    AVAIL_ALIGNMENT, DESC_ALIGNMENT, USED_ALIGNMENT, VIRTQ_DESC_F_INDIRECT, VIRTQ_DESC_F_NEXT,
+    VIRTQ_DESC_F_WRITE, avail_slot_place, used_element_place,
 };
 pub use putting::{PutFault, put};
 pub use queue::Queue;

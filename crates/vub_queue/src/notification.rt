@@ -4,6 +4,7 @@ ghost use Rattle.vub_queue.specs.EntryNumber.{is_left};
 ghost use Rattle.vub_queue.specs.Notification.{asking_at, asking_word, used_event_covers, wants_notification};
 
 use crate::error::QueueError;
+use crate::layout::{avail_slot_place, used_element_place};
 use crate::queue::Queue;
 use vub_mem::{DirtyLog, GuestMemory};
 
@@ -15,7 +16,7 @@ pub(crate) fn used_event_is_covered<L: DirtyLog>(memory: &GuestMemory<L>, queue:
     if queue.event_idx_enabled() {
         let at = queue.placed();
         memory
-            .locate(at.avail, 4 + 2 * queue.size() as u64, 2)
+            .locate(at.avail, avail_slot_place(queue.size()), 2)
             .is_some()
     } else {
         true
@@ -32,7 +33,7 @@ pub(crate) fn is_wanted<L: DirtyLog>(memory: &GuestMemory<L>, queue: &Queue) -> 
         return true;
     }
     let at = queue.placed();
-    match memory.locate(at.avail, 4 + 2 * queue.size() as u64, 2) {
+    match memory.locate(at.avail, avail_slot_place(queue.size()), 2) {
         None => true,
         Some(word) => {
             let event = memory.u16_at(word);
@@ -50,7 +51,7 @@ fn asking_place<L: DirtyLog>(memory: &GuestMemory<L>, queue: &Queue) -> Option<u
 {
     let at = queue.placed();
     if queue.event_idx_enabled() {
-        match memory.locate(at.used, 4 + 8 * queue.size() as u64, 2) {
+        match memory.locate(at.used, used_element_place(queue.size()), 2) {
             None => None,
             Some(word) => Some(word),
         }

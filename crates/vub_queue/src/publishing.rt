@@ -6,6 +6,7 @@ ghost use Rattle.vub_queue.specs.Layout.{avail_event_at};
 ghost use Rattle.vub_queue.specs.Take.{Costs, HasRoom, Looks, Taken, event_covers, guest_taken, marks_taken};
 
 use crate::damage::Damage;
+use crate::layout::used_element_place;
 use crate::queue::Queue;
 use crate::took::Took;
 use vub_mem::{DirtyLog, GuestMemory};
@@ -18,7 +19,7 @@ fn publish<L: DirtyLog>(queue: &Queue, memory: &mut GuestMemory<L>) -> bool
     ensures logs { MarksAll (page_marks L.byte_len L.marks) memory.old.logs (if event_covers memory.old.guest queue.now then marks_of memory.old.guest.regions (avail_event_at queue.now) 2 else []) memory.new.logs }
 {
     let at = queue.placed();
-    match memory.locate(at.used, 4 + 8 * queue.size() as u64, 2) {
+    match memory.locate(at.used, used_element_place(queue.size()), 2) {
         None => false,
         Some(word) => {
             memory.write_covered(word, &queue.next_avail().to_le_bytes());

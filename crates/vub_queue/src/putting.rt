@@ -91,6 +91,7 @@ pub fn put<L: DirtyLog>(
     ensures memory { OnErr result (memory.new ≡ memory.old) }
     ensures same { OnErr result (queue.new ≡ queue.old) }
 {
+    // read for its range: the reply's length has 32 bits
     let _room = chain.room;
     if !room_is_covered(memory, chain.segments.as_slice(), reply) {
         return Err(PutFault::RoomOutside);

@@ -3,6 +3,7 @@ ghost use Rattle.vub_queue.specs.Settings.{IsAligned, info_answer};
 
 use crate::addresses::Addresses;
 use crate::error::{QueueError, RingPart};
+use crate::layout::{AVAIL_ALIGNMENT, DESC_ALIGNMENT, USED_ALIGNMENT};
 use std::marker::Model;
 
 /// The state of a split virtqueue as the device keeps it. Its size and its greatest size are powers of two, and the
@@ -37,13 +38,13 @@ fn aligned(at: Addresses) -> Result<(), QueueError>
     ensures answer { result ≡ info_answer at.desc at.avail at.used }
     ensures ok { OnOk result (IsAligned at) }
 {
-    if at.desc % 16 != 0 {
+    if at.desc % DESC_ALIGNMENT != 0 {
         return Err(QueueError::Misaligned(RingPart::Desc));
     }
-    if at.avail % 2 != 0 {
+    if at.avail % AVAIL_ALIGNMENT != 0 {
         return Err(QueueError::Misaligned(RingPart::Avail));
     }
-    if at.used % 4 != 0 {
+    if at.used % USED_ALIGNMENT != 0 {
         return Err(QueueError::Misaligned(RingPart::Used));
     }
     Ok(())

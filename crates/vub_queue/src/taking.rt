@@ -9,6 +9,7 @@ ghost use Rattle.vub_queue.specs.declared.took.Took.{Took};
 use crate::chain::Chain;
 use crate::descriptor::Descriptor;
 use crate::head::{Head, next_head};
+use crate::layout::VIRTQ_DESC_F_WRITE;
 use crate::publishing::finish;
 use crate::queue::Queue;
 use crate::segment::{Segment, Segments};
@@ -30,7 +31,7 @@ fn append_part<L: DirtyLog>(
     requires { IsCovered memory.now.guest descriptor.now }
     ensures { OnOk result (request.new.items ≡ request.old.items ++ read_part memory.now.guest descriptor.now) }
 {
-    if descriptor.flags & 2 != 0 {
+    if descriptor.flags & VIRTQ_DESC_F_WRITE != 0 {
         return Ok(());
     }
     let bytes = memory.read_covered(alloc, descriptor.addr, descriptor.len as u64)?;
@@ -66,7 +67,7 @@ fn writable_segments(alloc: Global, descriptors: &[Descriptor]) -> Result<Segmen
 {
     let mut items = Vec::new(alloc);
     for descriptor in descriptors {
-        if descriptor.flags & 2 != 0 {
+        if descriptor.flags & VIRTQ_DESC_F_WRITE != 0 {
             items.push(Segment {
                 addr: descriptor.addr,
                 len: descriptor.len,

@@ -4,6 +4,7 @@ ghost use Rattle.vub_mem.specs.Marks.{MarksAll, page_marks, marks_of};
 ghost use Rattle.vub_mem.specs.Place.{covers, write_at};
 ghost use Rattle.vub_queue.specs.Put.{used_covers, used_marks, write_used};
 
+use crate::layout::used_element_place;
 use crate::queue::Queue;
 use vub_mem::{DirtyLog, GuestMemory};
 
@@ -23,7 +24,9 @@ pub(crate) fn use_is_covered<L: DirtyLog>(memory: &GuestMemory<L>, queue: &Queue
 {
     let at = queue.placed();
     let slot = queue.next_used() % queue.size();
-    memory.locate(at.used, 4 + 8 * slot as u64, 8).is_some()
+    memory
+        .locate(at.used, used_element_place(slot), 8)
+        .is_some()
         && memory.locate(at.used, 2, 2).is_some()
 }
 
@@ -60,7 +63,7 @@ pub(crate) fn write_use<L: DirtyLog>(
     write_behind(
         memory,
         at.used,
-        4 + 8 * slot as u64,
+        used_element_place(slot),
         &element_bytes(head, len),
     );
     write_behind(memory, at.used, 2, &index.to_le_bytes());

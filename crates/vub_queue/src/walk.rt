@@ -5,6 +5,7 @@ ghost use Rattle.vub_queue.specs.Walk.{CostsAsWalk, Fits, Walks, fault_of, reads
 
 use crate::damage::Damage;
 use crate::descriptor::Descriptor;
+use crate::layout::{VIRTQ_DESC_F_INDIRECT, VIRTQ_DESC_F_NEXT};
 use std::alloc::Global;
 use std::sync::ledger::Ledger;
 use vub_base::{OutOfMemory, Steps};
@@ -67,7 +68,7 @@ fn next_descriptor<L: DirtyLog, K: Ledger>(
         return Err(Damage::RingOutside);
     };
     let descriptor = read_descriptor(memory, at, steps);
-    if descriptor.flags & 4 != 0 {
+    if descriptor.flags & VIRTQ_DESC_F_INDIRECT != 0 {
         return Err(Damage::Indirect);
     }
     if sum + descriptor.len as u64 > 4294967295 {
@@ -101,7 +102,7 @@ pub(crate) fn read_chain<L: DirtyLog, K: Ledger>(
             Ok(descriptor) => {
                 list.push(descriptor)?;
                 sum += descriptor.len as u64;
-                if descriptor.flags & 1 == 0 {
+                if descriptor.flags & VIRTQ_DESC_F_NEXT == 0 {
                     return Ok(Walk::Whole(list));
                 }
                 number = descriptor.next;

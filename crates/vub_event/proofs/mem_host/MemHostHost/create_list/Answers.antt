@@ -1,6 +1,10 @@
+use Rattle.vub_event.proofs.Orderly.{create_list-keeps}
 use Rattle.vub_event.proofs.Striking.{struck}
 use Rattle.vub_event.proofs.mem_host.MemHostHost.create_list.Goals as goal
 
 pub returns-then-strikes-clause-faults : goal.returns-then-strikes-clause-faults
 returns-then-strikes-clause-faults c =
     struck _ _ _ _ _ c.if-strikes.true c.strikes.ensures.sound c.strikes.ensures.calls c.strikes.ensures.faults c.strikes.ensures.small
+
+pub invariant_of-self-2 : goal.invariant_of-self-2
+invariant_of-self-2 c = record { orderly = create_list-keeps _ _ _ c.args.self.now.orderly c.create_list.ensures.table }
