@@ -1,0 +1,4 @@
+pub mod Holding
+pub mod Seating
+pub mod Steps
+pub mod Words

@@ -1,5 +1,9 @@
+pub mod Harvests
+pub mod Notes
 pub mod PageBits
 pub mod Plain
+pub mod Rule
+pub mod Seats
 pub mod Since
 pub mod Tells
 pub mod View
