@@ -29,7 +29,7 @@ use Rattle.vub_model.specs.Service.{Meaning}
 use Rattle.vub_model.specs.World.{World, May, after, after_guest, phase_at, take_of, takes_by}
 use Rattle.vub_model.specs.RunOf.{party_of, next, IsRun}
 use Rattle.vub_model.specs.Running.{calm_after}
-use Rattle.vub_model.specs.Headline.{takes_of, IsFresh}
+use Rattle.vub_model.specs.Headline.{takes_of}
 use Rattle.vub_model.specs.Schedule.{Fits, SetFits, Invariant}
 use Rattle.vub_model.specs.Bases.{given_by, bases_given, numbers, count_up}
 use Rattle.vub_model.proofs.Cases.{work-cases, event-shared, take-leaf, none-leaf, said-cases}
@@ -45,7 +45,7 @@ use Rattle.vub_model.specs.declared.constants.Constants.{Constants}
 use Rattle.vub_model.specs.declared.setup.Setup.{Setup}
 use Rattle.vub_model.specs.ValidSetup.{IsValid}
 use Rattle.vub_model.specs.Opening.{opening, is_registered}
-use Rattle.vub_model.proofs.Openings.{opening-is-fresh}
+use Rattle.vub_model.proofs.Openings.{IsFresh}
 use Rattle.vub_model.proofs.OpeningMeets.{opening-meets, opening-untaken}
 
 -- The ring has the last of these bases, one for each epoch, and the takes of each earlier epoch are numbered on from its.

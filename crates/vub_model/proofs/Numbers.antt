@@ -22,7 +22,8 @@ use Rattle.vub_model.specs.Wiring.{Wiring}
 use Rattle.vub_model.specs.Work.{Local, MayWork, after_work, after_take, after_took, after_put, after_said, called, used, entry_of, looked, put_said}
 use Rattle.vub_model.specs.World.{World, May, after, after_guest, phase_at, take_of, takes_by, after_control}
 use Rattle.vub_model.specs.Bases.{numbers, count_up}
-use Rattle.vub_model.specs.Headline.{takes_of, IsFresh}
+use Rattle.vub_model.specs.Headline.{takes_of}
+use Rattle.vub_model.proofs.Openings.{IsFresh}
 use Rattle.vub_model.proofs.Cases.{work-cases, event-shared, take-leaf, none-leaf, said-cases}
 use Rattle.vub_model.proofs.Live.{looked-live, live-parts, live-taken, serving-takes}
 use Rattle.vub_model.proofs.Flow.{field-kept}

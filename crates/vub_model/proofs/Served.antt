@@ -28,14 +28,14 @@ use Rattle.vub_model.specs.Opening.{opening, is_registered}
 use Rattle.vub_model.specs.World.{World, phase_at, after_control}
 use Rattle.vub_model.specs.RunOf.{party_of, next, Turn, IsRun}
 use Rattle.vub_model.specs.Running.{calm_after}
-use Rattle.vub_model.specs.Headline.{Asked, asked, asked_at, takes_of, uses_of, asked_of, IsServed, IsOwnNumber}
-use Rattle.vub_model.specs.Schedule.{IsNumber, IsOwn, IsKick, IsBellOrExit, IsListener, PhaseFits, Fits, SetFits, RequestFits, Invariant}
+use Rattle.vub_model.specs.Headline.{Asked, asked, asked_at, takes_of, uses_of, asked_of}
+use Rattle.vub_model.specs.Schedule.{PhaseFits, HasInHand, Fits, SetFits, Invariant}
 use Rattle.vub_model.proofs.Places.{slot, few-queues}
 use Rattle.vub_model.proofs.Counting.{field-kept}
 use Rattle.vub_model.proofs.EachRing.{ring-all}
 use Rattle.vub_model.proofs.Waking.{has-first, has-more}
 use Rattle.vub_model.proofs.Turns.{turn-cases, turn-next}
-use Rattle.vub_model.proofs.Owners.{Owned, OwnPhase, OwnMembers, OwnNumbers}
+use Rattle.vub_model.proofs.Owners.{Owned, OwnPhase}
 use Rattle.vub_model.proofs.Flow.{Flow}
 use Rattle.vub_model.proofs.FlowRuns.{asked-pass, flow-step, replay-run, Goes, flow-goes, fresh-flow}
 use Rattle.vub_model.proofs.Numbers.{NumberAt, RingNumbered, Numbered, number-step, fresh-numbered}
@@ -46,43 +46,13 @@ use Rattle.vub_model.proofs.SchedRuns.{IsFew, invariant-turn, few-turn}
 
 -- What the schedule invariant says of workers
 
-own-number : (g : Wiring) (k n : ℕ) → IsNumber g k n → IsOwnNumber g k n
-own-number g k n number low =
-    let at = slot g number.0 k n number.1 in
-    let P : ℕ → Type 0 = λ q. HasWorker g q k in
-    subst P (sym at.1) (n, number.1)
-
-high-number : (g : Wiring) (k n : ℕ) → g.queues ≤ n → IsOwnNumber g k n
-high-number g k n high low = absurd (let few = few-queues g k in omega (arith, high, low, few))
-
-own-member : (g : Wiring) (f : Frame) (k : ℕ) (m : Member) → IsOwn g f k m → IsOwnNumber g k m.token
-own-member g f k m own = by own.is where
-  by : IsKick g f k m ⊎ (IsBellOrExit g f k m ⊎ IsListener g f k m) → IsOwnNumber g k m.token
-  by (inl kick) = own-number g k m.token (kick.queue, kick.placed)
-  by (inr (inl bell)) = high-number g k m.token (let e = bell.token in omega (arith, e))
-  by (inr (inr hears)) = high-number g k m.token (let e = hears.token in omega (arith, e))
-
-own-members : (g : Wiring) (f : Frame) (k : ℕ) (ms : List Member) → AllByRecursion (IsOwn g f k) ms → OwnMembers g k ms
-own-members g f k [] all = tt
-own-members g f k (m ∷ ms) all = (own-member g f k m all.0, own-members g f k ms all.1)
-
-own-numbers : (g : Wiring) (k : ℕ) (ns : List ℕ) → ((n : ℕ) → has_number n ns ≡ true → IsNumber g k n) → OwnNumbers g k ns
-own-numbers g k [] all = tt
-own-numbers g k (n ∷ ns) all = (own-number g k n (all n (has-first n n ns refl)), own-numbers g k ns (λ m has. all m (has-more m n ns has)))
-
 invariant-owned : {V : Type 0} (w : World V) (calm : ℕ → Bool) → Invariant w calm → Owned w
-invariant-owned w calm i = record {
-  listed = λ k below. own-members w.wiring (frame_of w.shared) k _ (i.linked.members k (let e = i.phases_size in omega (arith, below, e)));
-  pending = λ k. own-numbers w.wiring k (pending_at w.shared k) (i.numbers k);
-  phases = λ k. by k (phase_at w.phases k) refl (i.phases k);
-} where
+invariant-owned w calm i k = by k (phase_at w.phases k) refl (i.phases k) where
   by : (k : ℕ) (phase : Phase) → phase_at w.phases k ≡ phase → PhaseFits w.wiring k phase → OwnPhase w.wiring k phase
-  by k (Polled object token) is (inl bell) = high-number w.wiring k token (omega (arith, bell))
-  by k (Polled object token) is (inr (inl number)) = own-number w.wiring k token number
-  by k (Polled object token) is (inr (inr high)) = high-number w.wiring k token (omega (arith, high))
+  by k (Polled object token) is fits = tt
   by k (Serving queues) is fits = fits
-  by k (Taken e queues) is fits = ((i.hands k e.queue (let P : Phase → Type 0 = λ p. Rattle.vub_model.specs.Schedule.HasInHand p e.queue in subst P (sym is) refl)).0, fits)
-  by k (Served e reply queues) is fits = ((i.hands k e.queue (let P : Phase → Type 0 = λ p. Rattle.vub_model.specs.Schedule.HasInHand p e.queue in subst P (sym is) refl)).0, fits)
+  by k (Taken e queues) is fits = ((i.hands k e.queue (let P : Phase → Type 0 = λ p. HasInHand p e.queue in subst P (sym is) refl)).0, fits)
+  by k (Served e reply queues) is fits = ((i.hands k e.queue (let P : Phase → Type 0 = λ p. HasInHand p e.queue in subst P (sym is) refl)).0, fits)
   by k Idle is fits = tt
   by k Sweep is fits = tt
   by k (Heard token) is fits = tt
