@@ -1,6 +1,6 @@
 -- The number of a ring's next entry in 16 bits is its base plus the entries taken since, modulo 2^16, at every moment.
 use Rattle.vub_proto.specs.declared.answer.Answer.TheVariants as answer
-use Rattle.std.proofs.Common.{◌≡◌, ℕ, ◌+◌, ◌*◌, ◌/◌, ◌%◌, ◌^◌, not, ◌&&◌, List, [], ◌∷◌, Option, Some, None, refl, sym, ap, ◌∙◌, arith, nat_lt}
+use Rattle.std.proofs.Common.{◌≡◌, ℕ, ◌+◌, ◌*◌, ◌/◌, ◌%◌, ◌^◌, not, ◌&&◌, [], ◌∷◌, Option, Some, None, sym, ap, ◌∙◌, arith, nat_lt}
 use Rattle.std.proofs.Math.Nat.{mod-add-div', add-mul-mod_self_right}
 use native.Mathlib.Nat.{mod-eq_of_lt}
 use Rattle.std.proofs.lemmas.Bool.{cond_both}

@@ -1,5 +1,5 @@
 -- What each write of a ring keeps holds of all rings after each step.
-use Rattle.std.proofs.Common.{◌≡◌, ℕ, ◌<◌, Bool, true, false, inl, inr, List, [], ◌∷◌, length, Option, Some, None, sym, subst, slice_index_or}
+use Rattle.std.proofs.Common.{ℕ, Bool, true, false, inl, inr, List, [], ◌∷◌, length, Option, Some, None, sym, subst, slice_index_or}
 use Rattle.std.proofs.lemmas.Bool.{cases_eq, cases_lt}
 use Rattle.vub_model.specs.declared.entry.Entry.{Entry}
 use Rattle.vub_model.specs.declared.party.Party.{Party}

@@ -37,16 +37,11 @@ use Rattle.vub_model.proofs.Turns.{turn-cases, turn-next}
 use Rattle.vub_model.proofs.Live.{looked-live, live-taken, serving-takes}
 use Rattle.vub_model.proofs.Counting.{field-kept, ring-own, ring-other}
 use Rattle.vub_model.proofs.FlowSteps.{pushed, left_out}
-use Rattle.vub_model.proofs.Numbers.{RingNumbered, Numbered, numbers-other, number-step, fresh-numbered}
+use Rattle.vub_model.proofs.Numbers.{RingNumbered, Numbered, numbers-other, number-step}
 use Rattle.vub_model.proofs.SchedControl.{first-fits}
 use Rattle.vub_model.proofs.SchedRuns.{IsFew, invariant-turn, few-turn}
 use Rattle.vub_model.proofs.Served.{number-small}
-use Rattle.vub_model.specs.declared.constants.Constants.{Constants}
-use Rattle.vub_model.specs.declared.setup.Setup.{Setup}
-use Rattle.vub_model.specs.ValidSetup.{IsValid}
-use Rattle.vub_model.specs.Opening.{opening, is_registered}
 use Rattle.vub_model.proofs.Openings.{IsFresh}
-use Rattle.vub_model.proofs.OpeningMeets.{opening-meets, opening-untaken}
 
 -- The ring has the last of these bases, one for each epoch, and the takes of each earlier epoch are numbered on from its.
 pub record HasBases (bases : List ℕ) (r : Vring) (takes : List Take) : Type 0 where

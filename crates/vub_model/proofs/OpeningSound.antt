@@ -1,5 +1,5 @@
 -- What is known of the world wherever a run comes to is known of the opening of a valid set-up.
-use Rattle.std.proofs.Common.{◌≡◌, ℕ, ◌+◌, ◌%◌, ◌^◌, ◌<◌, ◌≤◌, ◌⊎◌, inl, inr, Bool, List, [], length, find, eqb, Option, Some, None, refl, sym, ap, ◌∙◌, subst, arith}
+use Rattle.std.proofs.Common.{◌≡◌, ℕ, ◌+◌, ◌%◌, ◌^◌, ◌<◌, inl, inr, [], find, eqb, Option, Some, None, refl, sym, ap, subst, arith}
 use Rattle.std.specs.Int.{is_power_of_two}
 use Rattle.std.specs.Prelude.{true, count_ones}
 use Rattle.std.specs.Int.Count.{ones-ones}
@@ -14,7 +14,7 @@ use Rattle.vub_model.specs.RingRecord.{Vring, closed_ring, limit}
 use Rattle.vub_model.specs.Shared.{ring_at}
 use Rattle.vub_model.specs.ValidSetup.{IsValid}
 use Rattle.vub_model.proofs.OpeningMeets.{IsSoundSize, rings-sound, given-sound, greatest-size, found-in, opening-ring, opening-meets, opening-untaken}
-use Rattle.vub_model.proofs.Sized.{IsSize, IsSized}
+use Rattle.vub_model.proofs.Sized.{IsSized}
 use Rattle.vub_model.proofs.Sound.{IsSound}
 
 -- 1 is a power of two

@@ -1,9 +1,8 @@
 -- The size of a ring is a power of two, and no greater than the device allows, at every moment.
-use Rattle.std.proofs.Common.{◌≡◌, ℕ, ◌+◌, ◌≤◌, Bool, true, false, not, ◌&&◌, nat_le, Option, Some, None, Result, Ok, Err, refl, arith, cond}
+use Rattle.std.proofs.Common.{◌≡◌, ℕ, ◌+◌, ◌≤◌, Bool, true, false, not, ◌&&◌, nat_le, Option, Some, None, Result, Ok, Err, refl, cond}
 use Rattle.std.specs.Int.{is_power_of_two}
 use Rattle.std.specs.Result.{is_ok}
 use Rattle.std.proofs.lemmas.Bool.{cond_both, and_parts, leb-true}
-use Rattle.vub_queue.specs.Settings.{size_answer}
 use Rattle.vub_queue.specs.declared.error.QueueError.TheVariants.{InvalidSize}
 use Rattle.vub_model.specs.declared.ring_op.RingOp.{RingOp}
 use Rattle.vub_model.specs.declared.ring_op.RingOp.TheVariants as op
