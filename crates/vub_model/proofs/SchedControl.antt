@@ -37,6 +37,7 @@ use Rattle.vub_model.specs.World.{World, phase_at, after_control}
 use Rattle.vub_model.specs.Running.{HasStopped, index_word, calm_after}
 use Rattle.vub_model.specs.Schedule.{IsNumber, Linked, Wired, Safe, Fits, SetFits, Quiet, IsKickAt, First, IsHandled, RequestFits, Rung, ringing, Woken, signalled, waiting, listed, Awake, Invariant}
 use Rattle.vub_model.proofs.Places.{one-place, one-queue}
+use Rattle.vub_model.proofs.Settings.{set-leaves, info-leaves}
 use Rattle.vub_model.proofs.Counting.{raised-above, field-kept, ring-own, ring-other, raised-keeps}
 use Rattle.vub_model.proofs.Registering.{number-own, number-kept, number-from}
 use Rattle.vub_model.proofs.Waking.{woken-by, has-more, has-rest}
@@ -72,46 +73,6 @@ counts-kept g h (Table change) x above = above
 counts-kept g h (Log o offset size) x above = above
 counts-kept g h (Device call) x above = above
 counts-kept g h Answering x above = above
-
--- a setting leaves the flight
-pub flight-kept : (g : Wiring) (f : Frame) (q : ℕ) (r : Vring) (o : RingOp) → SetFits g f q o → (ring_after r o).flight ≡ r.flight
-flight-kept g f q r op.Taken fits = absurd fits
-flight-kept g f q r op.Put fits = absurd fits
-flight-kept g f q r op.Hold fits = absurd fits
-flight-kept g f q r (op.SetInfo desc avail used next) fits = absurd fits
-flight-kept g f q r (op.SetBase n) fits = cond_both {A = Vring} (not (waits r (op.SetBase n)) && Rattle.vub_model.specs.RingRecord.fits r (op.SetBase n)) (changed r (op.SetBase n)) r (λ x. x.flight ≡ r.flight) (λ _. cond_both {A = Vring} (nat_lt r.epoch limit) (record r { queue = record r.queue { next_avail = n }; epoch = r.epoch + 1; base = n; taken = 0 }) r (λ x. x.flight ≡ r.flight) (λ _. refl) (λ _. refl)) (λ _. refl)
-flight-kept g f q r (op.SetReady b) fits = cond_both {A = Vring} (not (waits r (op.SetReady b)) && Rattle.vub_model.specs.RingRecord.fits r (op.SetReady b)) (changed r (op.SetReady b)) r (λ x. x.flight ≡ r.flight) (λ _. refl) (λ _. refl)
-flight-kept g f q r (op.SetSize n) fits = cond_both {A = Vring} (not (waits r (op.SetSize n)) && Rattle.vub_model.specs.RingRecord.fits r (op.SetSize n)) (changed r (op.SetSize n)) r (λ x. x.flight ≡ r.flight) (λ _. refl) (λ _. refl)
-flight-kept g f q r (op.SetEnabled b) fits = refl
-flight-kept g f q r (op.SetEventIdx b) fits = refl
-flight-kept g f q r (op.SetKick k) fits = refl
-flight-kept g f q r (op.SetCall c) fits = refl
-flight-kept g f q r (op.SetErr e) fits = refl
-flight-kept g f q r op.GetBase fits = refl
-
-addresses-kept : (g : Wiring) (f : Frame) (q : ℕ) (r : Vring) (o : RingOp) → SetFits g f q o → (ring_after r o).queue.addresses ≡ r.queue.addresses
-addresses-kept g f q r op.Taken fits = absurd fits
-addresses-kept g f q r op.Put fits = absurd fits
-addresses-kept g f q r op.Hold fits = absurd fits
-addresses-kept g f q r (op.SetInfo desc avail used next) fits = absurd fits
-addresses-kept g f q r (op.SetBase n) fits = cond_both {A = Vring} (not (waits r (op.SetBase n)) && Rattle.vub_model.specs.RingRecord.fits r (op.SetBase n)) (changed r (op.SetBase n)) r (λ x. x.queue.addresses ≡ r.queue.addresses) (λ _. cond_both {A = Vring} (nat_lt r.epoch limit) (record r { queue = record r.queue { next_avail = n }; epoch = r.epoch + 1; base = n; taken = 0 }) r (λ x. x.queue.addresses ≡ r.queue.addresses) (λ _. refl) (λ _. refl)) (λ _. refl)
-addresses-kept g f q r (op.SetReady b) fits = cond_both {A = Vring} (not (waits r (op.SetReady b)) && Rattle.vub_model.specs.RingRecord.fits r (op.SetReady b)) (changed r (op.SetReady b)) r (λ x. x.queue.addresses ≡ r.queue.addresses) (λ _. refl) (λ _. refl)
-addresses-kept g f q r (op.SetSize n) fits = cond_both {A = Vring} (not (waits r (op.SetSize n)) && Rattle.vub_model.specs.RingRecord.fits r (op.SetSize n)) (changed r (op.SetSize n)) r (λ x. x.queue.addresses ≡ r.queue.addresses) (λ _. refl) (λ _. refl)
-addresses-kept g f q r (op.SetEnabled b) fits = refl
-addresses-kept g f q r (op.SetEventIdx b) fits = refl
-addresses-kept g f q r (op.SetKick k) fits = refl
-addresses-kept g f q r (op.SetCall c) fits = refl
-addresses-kept g f q r (op.SetErr e) fits = refl
-addresses-kept g f q r op.GetBase fits = refl
-
-pub info-flight : (r : Vring) (desc avail used : ℕ) (next : Option ℕ) → (ring_after r (op.SetInfo desc avail used next)).flight ≡ r.flight
-info-flight r desc avail used next = cond_both {A = Vring} (not (waits r (op.SetInfo desc avail used next)) && Rattle.vub_model.specs.RingRecord.fits r (op.SetInfo desc avail used next)) (changed r (op.SetInfo desc avail used next)) r (λ x. x.flight ≡ r.flight) (λ _. refl) (λ _. refl)
-
-info-addresses : (r : Vring) (desc avail used : ℕ) (next : Option ℕ) → has_addresses r ≡ true → has_addresses (ring_after r (op.SetInfo desc avail used next)) ≡ true
-info-addresses r desc avail used next has = cond_both {A = Vring} (not (waits r (op.SetInfo desc avail used next)) && Rattle.vub_model.specs.RingRecord.fits r (op.SetInfo desc avail used next)) (changed r (op.SetInfo desc avail used next)) r (λ x. has_addresses x ≡ true) (λ _. some next) (λ _. has) where
-  some : (next : Option ℕ) → has_addresses (changed r (op.SetInfo desc avail used next)) ≡ true
-  some None = refl
-  some (Some n) = refl
 
 -- what remains first after the next request may have begun
 first-begun : (g : Wiring) (f : Frame) (rs : List _) (c : Control) (steps : List Small) (requests : List Request) (t : Small) → c.plan.steps ≡ steps → First steps t → First (begun_from g f rs c steps requests).plan.steps t
@@ -649,7 +610,7 @@ module _ {V : Type 0} (w : World V) (calm : ℕ → Bool) (i : Invariant w calm)
   by-info : (q desc avail used : ℕ) → (is : w.control.plan.steps ≡ Info q desc avail used ∷ left.steps) → waits_now h (Info q desc avail used) ≡ false → Invariant (after_control w (Info q desc avail used) said) (calm_after w party.Control (play.Control (Info q desc avail used) said) (after_control w (Info q desc avail used) said) calm)
   by-info q desc avail used is ready =
       ring-close (Info q desc avail used) is ready q (ring_after (ring_at h q) (op.SetInfo desc avail used (next_used_at h.guest used))) refl (safe (Info q desc avail used) is ready).0
-      (info-flight (ring_at h q) desc avail used (next_used_at h.guest used)) (info-addresses (ring_at h q) desc avail used (next_used_at h.guest used)) refl
+      (info-leaves (ring_at h q) desc avail used (next_used_at h.guest used)).flight (info-leaves (ring_at h q) desc avail used (next_used_at h.guest used)).addresses refl
       (λ flies on. ap (λ (k : Known). k.ready) (info-kept (ring_at h q) desc avail used (next_used_at h.guest used)) ∙ on)
       (λ k n e. absurd cc) (λ k n e. absurd cc) (λ o e. absurd cc)
       (λ p c. calm-of (eqb q p) (calm p) _ c)
@@ -689,7 +650,7 @@ module _ {V : Type 0} (w : World V) (calm : ℕ → Bool) (i : Invariant w calm)
     set-close : ((p : ℕ) → calm_after w party.Control (play.Control (Set q o) said) (after_control w (Set q o) said) calm p ≡ true → calm p ≡ true) → Own → Invariant (after_control w (Set q o) said) (calm_after w party.Control (play.Control (Set q o) said) (after_control w (Set q o) said) calm)
     set-close calms own =
         ring-close (Set q o) is ready q new refl (safe (Set q o) is ready).0.0
-        (flight-kept g fr q r o set_fits) (λ has. ap (λ (a : Option _). is_some a) (addresses-kept g fr q r o set_fits) ∙ has) refl
+        (set-leaves g fr q r o set_fits).flight (set-leaves g fr q r o set_fits).addresses refl
         (λ flies on. ap (λ (k : Known). k.ready) (known-changed r o ready) ∙ stays_ready o ready flies on)
         (λ k n e. absurd cc) (λ k n e. absurd cc) (λ x e. absurd cc) calms own
 
@@ -773,33 +734,3 @@ module _ {V : Type 0} (w : World V) (calm : ℕ → Bool) (i : Invariant w calm)
 
 pub sched-control : {V : Type 0} (w : World V) (calm : ℕ → Bool) → Invariant w calm → (s : Small) (said : DeviceSaid) → MayControl w.shared w.control.plan.steps s said → Invariant (after_control w s said) (calm_after w party.Control (play.Control s said) (after_control w s said) calm)
 sched-control w calm i s said may = by-may w calm i said w.control.plan.steps s refl may
-
--- the plan's first step fits
-pub first-fits : {V : Type 0} (w : World V) (calm : ℕ → Bool) → Invariant w calm → (s : Small) (said : DeviceSaid) → MayControl w.shared w.control.plan.steps s said → Fits w.wiring (frame_of w.shared) w.control.plan.reply s (tail_of w.control.plan.steps)
-first-fits w calm i s said may = by w.control.plan.steps refl may where
-  by : (steps : List Small) → w.control.plan.steps ≡ steps → MayControl w.shared steps s said → Fits w.wiring (frame_of w.shared) w.control.plan.reply s (tail_of w.control.plan.steps)
-  by [] is may = absurd may
-  by (t ∷ rest) is may =
-      let P : List Small → Type 0 = λ l. Safe w.wiring (frame_of w.shared) w.control.plan.reply l in
-      let S : Small → Type 0 = λ s. Fits w.wiring (frame_of w.shared) w.control.plan.reply s rest in
-      let L : List Small → Type 0 = λ l. Fits w.wiring (frame_of w.shared) w.control.plan.reply s l in
-      subst L (sym (ap tail_of is)) (subst S (sym may.0) (subst P is i.safe).0)
-
--- a change of a ring takes no entry
-pub taken-changed : (g : Wiring) (f : Frame) (q : ℕ) (r : Vring) (o : RingOp) → SetFits g f q o → (ring_after r o).taken ≤ r.taken
-taken-changed g f q r op.Taken fits = absurd fits
-taken-changed g f q r op.Put fits = absurd fits
-taken-changed g f q r op.Hold fits = absurd fits
-taken-changed g f q r (op.SetInfo desc avail used next) fits = absurd fits
-taken-changed g f q r (op.SetBase n) fits = cond_both {A = Vring} (not (waits r (op.SetBase n)) && Rattle.vub_model.specs.RingRecord.fits r (op.SetBase n)) (changed r (op.SetBase n)) r (λ x. x.taken ≤ r.taken) (λ _. cond_both {A = Vring} (nat_lt r.epoch limit) (record r { queue = record r.queue { next_avail = n }; epoch = r.epoch + 1; base = n; taken = 0 }) r (λ x. x.taken ≤ r.taken) (λ _. omega arith) (λ _. omega arith)) (λ _. omega arith)
-taken-changed g f q r (op.SetReady b) fits = cond_both {A = Vring} (not (waits r (op.SetReady b)) && Rattle.vub_model.specs.RingRecord.fits r (op.SetReady b)) (changed r (op.SetReady b)) r (λ x. x.taken ≤ r.taken) (λ _. omega arith) (λ _. omega arith)
-taken-changed g f q r (op.SetSize n) fits = cond_both {A = Vring} (not (waits r (op.SetSize n)) && Rattle.vub_model.specs.RingRecord.fits r (op.SetSize n)) (changed r (op.SetSize n)) r (λ x. x.taken ≤ r.taken) (λ _. omega arith) (λ _. omega arith)
-taken-changed g f q r (op.SetEnabled b) fits = omega arith
-taken-changed g f q r (op.SetEventIdx b) fits = omega arith
-taken-changed g f q r (op.SetKick k) fits = omega arith
-taken-changed g f q r (op.SetCall c) fits = omega arith
-taken-changed g f q r (op.SetErr e) fits = omega arith
-taken-changed g f q r op.GetBase fits = omega arith
-
-pub taken-info : (r : Vring) (desc avail used : ℕ) (next : Option ℕ) → (ring_after r (op.SetInfo desc avail used next)).taken ≤ r.taken
-taken-info r desc avail used next = cond_both {A = Vring} (not (waits r (op.SetInfo desc avail used next)) && Rattle.vub_model.specs.RingRecord.fits r (op.SetInfo desc avail used next)) (changed r (op.SetInfo desc avail used next)) r (λ x. x.taken ≤ r.taken) (λ _. omega arith) (λ _. omega arith)

@@ -25,13 +25,13 @@ use Rattle.vub_model.specs.Running.{calm_after}
 use Rattle.vub_model.specs.Headline.{Asked, asked, asked_at, takes_of}
 use Rattle.vub_model.specs.Schedule.{PhaseFits, HasInHand, Fits, SetFits, Invariant}
 use Rattle.vub_model.proofs.Counting.{field-kept}
-use Rattle.vub_model.proofs.EachRing.{ring-all}
 use Rattle.vub_model.proofs.Turns.{turn-cases, turn-next}
 use Rattle.vub_model.proofs.Owners.{Owned, OwnPhase}
 use Rattle.vub_model.proofs.Flow.{Flow}
 use Rattle.vub_model.proofs.FlowRuns.{asked-pass, flow-step}
 use Rattle.vub_model.proofs.Numbers.{NumberAt, RingNumbered, Numbered, number-step}
-use Rattle.vub_model.proofs.SchedControl.{first-fits, flight-kept, info-flight}
+use Rattle.vub_model.proofs.Settings.{Kept}
+use Rattle.vub_model.proofs.SmallRings.{ring-small, small-leaves}
 use Rattle.vub_model.proofs.SchedRuns.{IsFew, invariant-turn, few-turn}
 
 -- What the schedule invariant says of workers
@@ -50,73 +50,18 @@ invariant-owned w calm i k = by k (phase_at w.phases k) refl (i.phases k) where
 
 -- Control steps
 
-flight-small : {V : Type 0} (w : World V) (calm : ℕ → Bool) → Invariant w calm → (s : Small) (said : DeviceSaid) → MayControl w.shared w.control.plan.steps s said → (q : ℕ) → (ring_at (small_after w.wiring w.shared s) q).flight ≡ (ring_at w.shared q).flight
-flight-small w calm i s said may q = by s (first-fits w calm i s said may) where
-  by : (s : Small) → Fits w.wiring (frame_of w.shared) w.control.plan.reply s (tail_of w.control.plan.steps) → (ring_at (small_after w.wiring w.shared s) q).flight ≡ (ring_at w.shared q).flight
-  by (Set p o) fits = field-kept (λ (x : Vring). x.flight) w.shared p (ring_after (ring_at w.shared p) o) (flight-kept w.wiring (frame_of w.shared) p (ring_at w.shared p) o fits.1) q
-  by (Info p desc avail used) fits = field-kept (λ (x : Vring). x.flight) w.shared p (ring_after (ring_at w.shared p) (op.SetInfo desc avail used (next_used_at w.shared.guest used))) (info-flight (ring_at w.shared p) desc avail used (next_used_at w.shared.guest used)) q
-  by (Claim o p) fits = refl
-  by (Release o) fits = refl
-  by (Add k o n) fits = refl
-  by (Delete k o) fits = refl
-  by (Listen k o n) fits = refl
-  by (Unlisten k o a) fits = refl
-  by (Bell o) fits = refl
-  by (Remove k n) fits = refl
-  by (Insert k n) fits = refl
-  by (Table change) fits = refl
-  by (Log o offset size) fits = refl
-  by (Device call) fits = refl
-  by Answering fits = refl
-
 -- a change of a ring keeps its numbers, and a new base begins a new epoch
-module _ (g : Wiring) (f : Frame) (q : ℕ) (r : Vring) (takes : List Take) (at : RingNumbered r takes) where
-  next-epoch : (n : ℕ) → NumberAt (r.epoch + 1) n 0 takes
-  next-epoch n = record { now = at.none_later (r.epoch + 1) (omega arith); none_later = λ e later. at.none_later e (omega (arith, later)) }
+next-epoch : (r : Vring) (takes : List Take) → RingNumbered r takes → (n : ℕ) → NumberAt (r.epoch + 1) n 0 takes
+next-epoch r takes at n = record { now = at.none_later (r.epoch + 1) (omega arith); none_later = λ e later. at.none_later e (omega (arith, later)) }
 
-  abbrev Kept : RingOp → Type 0
-  Kept o = RingNumbered (ring_after r o) takes
-
-  kept-if : (o : RingOp) → RingNumbered (changed r o) takes → Kept o
-  kept-if o new = cond_both {A = Vring} (not (waits r o) && fits r o) (changed r o) r (λ x. RingNumbered x takes) (λ _. new) (λ _. at)
-
-  number-op : (o : RingOp) → SetFits g f q o → Kept o
-  number-op (op.SetBase n) ok = kept-if (op.SetBase n) (cond_both {A = Vring} (nat_lt r.epoch limit) (record r { queue = record r.queue { next_avail = n }; epoch = r.epoch + 1; base = n; taken = 0 }) r (λ x. RingNumbered x takes) (λ _. next-epoch n) (λ _. at))
-  number-op op.Taken ok = absurd ok
-  number-op op.Put ok = absurd ok
-  number-op op.Hold ok = absurd ok
-  number-op (op.SetInfo desc avail used more) ok = absurd ok
-  number-op (op.SetReady b) ok = kept-if (op.SetReady b) at
-  number-op (op.SetSize n) ok = kept-if (op.SetSize n) at
-  number-op (op.SetEnabled b) ok = at
-  number-op (op.SetEventIdx b) ok = at
-  number-op (op.SetKick k) ok = at
-  number-op (op.SetCall c) ok = at
-  number-op (op.SetErr e) ok = at
-  number-op op.GetBase ok = at
-
-  number-info : (desc avail used : ℕ) (more : Option ℕ) → Kept (op.SetInfo desc avail used more)
-  number-info desc avail used None = kept-if (op.SetInfo desc avail used None) at
-  number-info desc avail used (Some n) = kept-if (op.SetInfo desc avail used (Some n)) at
+numbers-kept : (r : Vring) (takes : List Take) → RingNumbered r takes → Kept (λ x. RingNumbered x takes) r
+numbers-kept r takes at = record { same = at; ready = λ b. at; size = λ n ok. at; enabled = λ b. at; event_idx = λ b. at; kick = λ k. at; call = λ c. at; err = λ e. at; addresses = λ a. at; used = λ a n. at }
 
 pub number-small : {V : Type 0} (w : World V) (calm : ℕ → Bool) → Invariant w calm → Numbered w → (s : Small) (said : DeviceSaid) → MayControl w.shared w.control.plan.steps s said → Numbered (after_control w s said)
-number-small w calm i numbered s said may q = by s (first-fits w calm i s said may) where
-  by : (s : Small) → Fits w.wiring (frame_of w.shared) w.control.plan.reply s (tail_of w.control.plan.steps) → RingNumbered (ring_at (small_after w.wiring w.shared s) q) (takes_of q w.takes)
-  by (Set p o) ok = ring-all w.shared p (ring_after (ring_at w.shared p) o) (λ q r. RingNumbered r (takes_of q w.takes)) (λ was. number-op w.wiring (frame_of w.shared) p (ring_at w.shared p) (takes_of p w.takes) was o ok.1) q (numbered q)
-  by (Info p desc avail used) ok = ring-all w.shared p (ring_after (ring_at w.shared p) (op.SetInfo desc avail used (next_used_at w.shared.guest used))) (λ q r. RingNumbered r (takes_of q w.takes)) (λ was. number-info w.wiring (frame_of w.shared) p (ring_at w.shared p) (takes_of p w.takes) was desc avail used (next_used_at w.shared.guest used)) q (numbered q)
-  by (Claim o p) ok = numbered q
-  by (Release o) ok = numbered q
-  by (Add k o n) ok = numbered q
-  by (Delete k o) ok = numbered q
-  by (Listen k o n) ok = numbered q
-  by (Unlisten k o a) ok = numbered q
-  by (Bell o) ok = numbered q
-  by (Remove k n) ok = numbered q
-  by (Insert k n) ok = numbered q
-  by (Table change) ok = numbered q
-  by (Log o offset size) ok = numbered q
-  by (Device call) ok = numbered q
-  by Answering ok = numbered q
+number-small w calm i numbered s said may =
+    ring-small w calm i s said may (λ q r. RingNumbered r (takes_of q w.takes))
+    (λ q. numbers-kept (ring_at w.shared q) (takes_of q w.takes) (numbered q))
+    (λ q n is low. next-epoch (ring_at w.shared q) (takes_of q w.takes) (numbered q) n)
 
 -- Turns and runs
 
@@ -125,7 +70,7 @@ served-turn {V} m w calm p z calls i flow numbered =
     turn-cases m w p z (λ l. Flow z (calls ++ asked_at m w p l) × Numbered z)
     (λ same. (subst (λ c. Flow z (calls ++ c)) (sym (asked-pass m w p)) (subst (λ c. Flow z c) (sym (append-nil calls)) (subst (λ (x : World V). Flow x calls) (sym same) flow)), subst (λ (x : World V). Numbered x) (sym same) numbered))
     (λ l may is. (
-      subst (λ (x : World V). Flow x (calls ++ asked_at m w p l)) (sym is) (flow-step m w calls flow (invariant-owned w calm i) (λ s said ok q. flight-small w calm i s said ok q) p l may),
+      subst (λ (x : World V). Flow x (calls ++ asked_at m w p l)) (sym is) (flow-step m w calls flow (invariant-owned w calm i) (λ s said ok q. (small-leaves w calm i s said ok q).flight) p l may),
       subst (λ (x : World V). Numbered x) (sym is) (number-step m w numbered (λ s said ok. number-small w calm i numbered s said ok) p l may),
     ))
 
