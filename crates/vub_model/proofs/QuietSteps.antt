@@ -46,7 +46,7 @@ use Rattle.vub_model.proofs.Linking.{kick_at, list-own, list-other, one-kick, un
 use Rattle.vub_model.proofs.Members.{without-own, without-other, new-other}
 use Rattle.vub_model.proofs.Stepping.{frame_after, SafePlan, Next, step-next, claim-step, listen-step, add-step, outcome-safe, refusal-safe, told-safe, begun-all}
 use Rattle.vub_model.proofs.FrameSmall.{info-kept, known-changed, NamesEvent, frame-small, claim-same, listen-same}
-use Rattle.vub_model.proofs.SmallSteps.{counts-kept, first-begun, names, same-events, rung-there, lacking-none, lacking-fewer, lacking-other, calm-of, never-calm, and-none, left-safe}
+use Rattle.vub_model.proofs.SmallSteps.{counts-kept, first-begun, names, rung-there, lacking-none, lacking-fewer, lacking-other, calm-of, never-calm, and-none, left-safe}
 
 module _ {V : Type 0} (w : World V) (calm : ℕ → Bool) (i : Invariant w calm) (said : DeviceSaid) where
   abbrev g : Wiring
@@ -73,13 +73,13 @@ module _ {V : Type 0} (w : World V) (calm : ℕ → Bool) (i : Invariant w calm)
     safe = let P : List Small → Type 0 = λ l. Safe g fr w.control.plan.reply l in subst P is i.safe
 
     frame-is : frame_of z ≡ frame_after g fr s
-    frame-is = frame-small g h s (names g h w.control.plan.reply s left.steps safe.0) ready
+    frame-is = frame-small g h s (names g h w.control.plan.reply s left.steps safe.0).0 ready
 
     next : Wired g (frame_of z) × Linked g (frame_of z) × SafePlan g (frame_of z) (rest_after g h s said left)
     next = let P : Frame → Type 0 = λ f. Wired g f × Linked g f × SafePlan g f (rest_after g h s said left) in subst P (sym frame-is) (left-safe g h said i.wired i.linked s left safe)
 
     requests-fit : AllByRecursion (RequestFits g (frame_of z).events) w.control.requests
-    requests-fit = let P : List Bool → Type 0 = λ e. AllByRecursion (RequestFits g e) w.control.requests in subst P (sym (ap (λ (f : Frame). f.events) frame-is ∙ same-events g fr s)) i.requests
+    requests-fit = let P : List Bool → Type 0 = λ e. AllByRecursion (RequestFits g e) w.control.requests in subst P (sym (ap (λ (f : Frame). f.events) frame-is ∙ (names g h w.control.plan.reply s left.steps safe.0).1)) i.requests
 
     begun-is : Safe g (frame_of z) after.control.plan.reply after.control.plan.steps × AllByRecursion (RequestFits g (frame_of z).events) after.control.requests
     begun-is = begun-all g (frame_of z) next.0 next.1 z.guest.regions (played g h w.control s said) next.2 requests-fit

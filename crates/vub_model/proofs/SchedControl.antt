@@ -46,7 +46,7 @@ use Rattle.vub_model.proofs.Linking.{kick_at, list-own, list-other, one-kick, un
 use Rattle.vub_model.proofs.Members.{without-own, without-other, new-other}
 use Rattle.vub_model.proofs.Stepping.{frame_after, SafePlan, Next, step-next, claim-step, listen-step, add-step, outcome-safe, refusal-safe, told-safe, begun-all}
 use Rattle.vub_model.proofs.FrameSmall.{info-kept, known-changed, NamesEvent, frame-small, claim-same, listen-same}
-use Rattle.vub_model.proofs.SmallSteps.{counts-kept, first-begun, names, same-events, rung-there, lacking-none, lacking-fewer, lacking-other, calm-of, never-calm, and-none, left-safe}
+use Rattle.vub_model.proofs.SmallSteps.{counts-kept, first-begun, names, rung-there, lacking-none, lacking-fewer, lacking-other, calm-of, never-calm, and-none, left-safe}
 use Rattle.vub_model.proofs.QuietSteps.{close, OldRung, NewRung, quiet-rung, OldWoken, NewWoken, old-woken, quiet-woken, quiet-close, same-lists, still, first-now, safe, by-add, by-delete, by-bell, by-listen, by-unlisten}
 
 module _ {V : Type 0} (w : World V) (calm : ℕ → Bool) (i : Invariant w calm) (said : DeviceSaid) where

@@ -77,39 +77,23 @@ pub first-begun : (g : Wiring) (f : Frame) (rs : List _) (c : Control) (steps : 
 first-begun g f rs c [] requests t is first = absurd first
 first-begun g f rs c (s ∷ steps) requests t is first = let P : List Small → Type 0 = λ l. First l t in subst P (sym is) first
 
-pub names : {V : Type 0} (g : Wiring) (h : Shared V) (reply : _) (s : Small) (rest : List Small) → Fits g (frame_of h) reply s rest → NamesEvent g h s
-names g h reply (Claim o q) rest fits = fits.1
-names g h reply (Release o) rest fits = tt
-names g h reply (Add k o n) rest fits = tt
-names g h reply (Delete k o) rest fits = tt
-names g h reply (Listen k o n) rest fits = tt
-names g h reply (Unlisten k o a) rest fits = tt
-names g h reply (Bell o) rest fits = tt
-names g h reply (Remove k n) rest fits = tt
-names g h reply (Insert k n) rest fits = tt
-names g h reply (Set q o) rest fits = tt
-names g h reply (Info q desc avail used) rest fits = tt
-names g h reply (Table change) rest fits = tt
-names g h reply (Log o offset size) rest fits = tt
-names g h reply (Device call) rest fits = tt
-names g h reply Answering rest fits = tt
-
-pub same-events : (g : Wiring) (f : Frame) (s : Small) → (frame_after g f s).events ≡ f.events
-same-events g f (Claim o q) = refl
-same-events g f (Release o) = refl
-same-events g f (Add k o n) = refl
-same-events g f (Delete k o) = refl
-same-events g f (Listen k o n) = refl
-same-events g f (Unlisten k o a) = refl
-same-events g f (Bell o) = refl
-same-events g f (Remove k n) = refl
-same-events g f (Insert k n) = refl
-same-events g f (Set q o) = refl
-same-events g f (Info q desc avail used) = refl
-same-events g f (Table change) = refl
-same-events g f (Log o offset size) = refl
-same-events g f (Device call) = refl
-same-events g f Answering = refl
+-- what a step names is there, and no event comes or goes
+pub names : {V : Type 0} (g : Wiring) (h : Shared V) (reply : _) (s : Small) (rest : List Small) → Fits g (frame_of h) reply s rest → NamesEvent g h s × ((frame_after g (frame_of h) s).events ≡ (frame_of h).events)
+names g h reply (Claim o q) rest fits = (fits.1, refl)
+names g h reply (Release o) rest fits = (tt, refl)
+names g h reply (Add k o n) rest fits = (tt, refl)
+names g h reply (Delete k o) rest fits = (tt, refl)
+names g h reply (Listen k o n) rest fits = (tt, refl)
+names g h reply (Unlisten k o a) rest fits = (tt, refl)
+names g h reply (Bell o) rest fits = (tt, refl)
+names g h reply (Remove k n) rest fits = (tt, refl)
+names g h reply (Insert k n) rest fits = (tt, refl)
+names g h reply (Set q o) rest fits = (tt, refl)
+names g h reply (Info q desc avail used) rest fits = (tt, refl)
+names g h reply (Table change) rest fits = (tt, refl)
+names g h reply (Log o offset size) rest fits = (tt, refl)
+names g h reply (Device call) rest fits = (tt, refl)
+names g h reply Answering rest fits = (tt, refl)
 
 -- the plan that is left fits the frame after the step
 module _ {V : Type 0} (g : Wiring) (h : Shared V) (said : DeviceSaid) (wired : Wired g (frame_of h)) (l : Linked g (frame_of h)) where
