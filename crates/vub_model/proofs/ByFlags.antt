@@ -1,6 +1,6 @@
 -- A Take goes by the flags and addresses of the ring alone: no other entry of its queue is in flight, since that would be in
 -- this worker's own hand, and fewer were taken than the limit.
-use Rattle.std.proofs.Common.{◌≡◌, ℕ, suc, ◌+◌, Bool, true, false, not, ◌&&◌, List, [], ◌∷◌, nat_lt, refl, sym, ap, ◌∙◌, subst, arith}
+use Rattle.std.proofs.Common.{◌≡◌, ℕ, suc, Bool, true, false, not, ◌&&◌, List, ◌∷◌, nat_lt, refl, subst, arith}
 use Rattle.std.proofs.lemmas.Bool.{lt-ltb}
 use Rattle.vub_model.specs.declared.flight.Flight.{Flight}
 use Rattle.vub_model.specs.declared.flight.Flight.TheVariants as flight
@@ -11,8 +11,8 @@ use Rattle.vub_model.specs.declared.phase.Phase.TheVariants.{Serving}
 use Rattle.vub_model.specs.declared.play.Play.{Play}
 use Rattle.vub_model.specs.declared.play.Play.TheVariants as play
 use Rattle.vub_model.specs.Entries.{TakesByFlags}
-use Rattle.vub_model.specs.RingRecord.{Vring, is_on, has_addresses, is_in_flight, limit}
-use Rattle.vub_model.specs.Schedule.{PhaseFits, HasInHand, Invariant}
+use Rattle.vub_model.specs.RingRecord.{is_on, has_addresses, is_in_flight, limit}
+use Rattle.vub_model.specs.Schedule.{PhaseFits, HasInHand}
 use Rattle.vub_model.specs.Shared.{ring_at}
 use Rattle.vub_model.specs.Wiring.{HasWorker}
 use Rattle.vub_model.specs.Work.{may_take}

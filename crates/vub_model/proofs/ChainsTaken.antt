@@ -1,10 +1,10 @@
 -- What a Take gives is the entry that is next in its ring: its slot of the available ring names its head, and the head has
 -- the chain of which request, segments and room are.
-use Rattle.std.proofs.Common.{◌≡◌, ℕ, suc, ◌+◌, ◌*◌, ◌%◌, ◌^◌, ◌<◌, ◌≤◌, Bool, true, false, not, ◌==◌, cond, inl, inr, List, [], ◌∷◌, ◌++◌, nat_lt, refl, sym, ap, ◌∙◌, subst, arith}
+use Rattle.std.proofs.Common.{◌≡◌, ℕ, suc, ◌+◌, ◌*◌, ◌%◌, ◌<◌, ◌≤◌, Bool, true, false, not, ◌==◌, cond, List, [], ◌∷◌, nat_lt, refl, sym, ap, ◌∙◌, subst, arith}
 use Rattle.std.specs.List.{AllByRecursion}
 use Rattle.std.specs.Int.{w16}
-use Rattle.std.proofs.lemmas.Bool.{ltb-false, eqb-false, not-false, cond-true, cases_eq}
-use Rattle.std.proofs.lemmas.List.{append-nil, get_or-set_same, get_or-set_other}
+use Rattle.std.proofs.lemmas.Bool.{ltb-false, eqb-false, not-false, cond-true}
+use Rattle.std.proofs.lemmas.List.{append-nil, get_or-set_same}
 use Rattle.vub_mem.specs.Memory.{Guest}
 use Rattle.vub_mem.specs.Place.{covers, number_at}
 use Rattle.vub_queue.specs.EntryNumber.{index_covers, left_of}
@@ -20,11 +20,10 @@ use Rattle.vub_queue.specs.declared.took.Took.TheVariants as took
 use Rattle.vub_queue.proofs.Numbers.{slot_of_number}
 use Rattle.vub_queue.proofs.Walks.{takes_some}
 use Rattle.vub_model.specs.declared.cause.StopCause.TheVariants.{Exit}
-use Rattle.vub_model.specs.declared.entry.Entry.{Entry}
 use Rattle.vub_model.specs.declared.party.Party.{Party}
 use Rattle.vub_model.specs.declared.party.Party.TheVariants as party
 use Rattle.vub_model.specs.declared.phase.Phase.{Phase}
-use Rattle.vub_model.specs.declared.phase.Phase.TheVariants.{Idle, Taken, Stopped}
+use Rattle.vub_model.specs.declared.phase.Phase.TheVariants.{Stopped}
 use Rattle.vub_model.specs.declared.play.Play.{Play}
 use Rattle.vub_model.specs.declared.play.Play.TheVariants as play
 use Rattle.vub_model.specs.declared.records.Take.{Take}
@@ -34,9 +33,8 @@ use Rattle.vub_model.specs.EntryNumber.{next_number, IsCounted, left_count}
 use Rattle.vub_model.specs.RingRecord.{Vring}
 use Rattle.vub_model.specs.Service.{Meaning}
 use Rattle.vub_model.specs.Shared.{Shared, ring_at}
-use Rattle.vub_model.specs.Wiring.{Wiring}
 use Rattle.vub_model.specs.Work.{Local, MayWork, after_work, after_take, looked, may_take, entry_of}
-use Rattle.vub_model.specs.World.{World, May, after, after_guest, phase_at, takes_by, take_of}
+use Rattle.vub_model.specs.World.{World, May, after, after_guest, phase_at, takes_by}
 use Rattle.vub_model.specs.RunOf.{Turn}
 use Rattle.vub_model.proofs.Cases.{work-cases, take-leaf}
 use Rattle.vub_model.proofs.Live.{serving-takes}

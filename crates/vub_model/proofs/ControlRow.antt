@@ -1,7 +1,6 @@
 -- A worked row: three requests from the opening, control alone: the features, the kick, and the queue enabled.
-use Rattle.std.proofs.Common.{pos, ◌≡◌, ℕ, zero, suc, Bool, true, false, List, [], ◌∷◌, length, Option, Some, None, refl}
+use Rattle.std.proofs.Common.{pos, ◌≡◌, ℕ, true, false, List, [], ◌∷◌, length, Some, None, refl}
 use Rattle.vub_event.specs.HostTable.{members_at}
-use Rattle.vub_proto.specs.declared.answer.Answer.{Answer}
 use Rattle.vub_proto.specs.declared.answer.Answer.TheVariants as answer
 use Rattle.vub_proto.specs.declared.answer.Cause.TheVariants as cause
 use Rattle.vub_proto.specs.declared.answer.VhostUserError.TheVariants as error

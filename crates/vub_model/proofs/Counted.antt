@@ -1,6 +1,6 @@
 -- The number of a ring's next entry in 16 bits is its base plus the entries taken since, modulo 2^16, at every moment.
 use Rattle.vub_proto.specs.declared.answer.Answer.TheVariants as answer
-use Rattle.std.proofs.Common.{◌≡◌, ℕ, ◌+◌, ◌*◌, ◌/◌, ◌%◌, ◌^◌, not, ◌&&◌, List, [], ◌∷◌, Option, Some, None, refl, sym, ap, ◌∙◌, arith, nat_lt}
+use Rattle.std.proofs.Common.{◌≡◌, ℕ, ◌+◌, ◌*◌, ◌/◌, ◌%◌, ◌^◌, ◌<◌, not, ◌&&◌, [], ◌∷◌, Option, Some, None, sym, ap, ◌∙◌, arith, nat_lt}
 use Rattle.std.proofs.Math.Nat.{mod-add-div', add-mul-mod_self_right}
 use native.Mathlib.Nat.{mod-eq_of_lt}
 use Rattle.std.proofs.lemmas.Bool.{cond_both}
@@ -17,6 +17,7 @@ use Rattle.vub_model.specs.Control.{answers_by, answer_of}
 use Rattle.vub_model.specs.Plans.{Plan, next_of}
 use Rattle.vub_model.specs.Schedule.{SetFits}
 use Rattle.vub_model.proofs.EachRing.{KeptByWrites}
+use Rattle.vub_model.proofs.Settings.{Kept, rebased}
 
 one-more : (a n : ℕ) → n ≡ a % 2 ^ 16 → (n + 1) % 2 ^ 16 ≡ (a + 1) % 2 ^ 16
 one-more a n is =
@@ -27,31 +28,14 @@ one-more a n is =
 counted-taken : (r : Vring) → IsCounted r → IsCounted (changed r op.Taken)
 counted-taken r at = one-more (r.base + r.taken) r.queue.next_avail at ∙ (let e : r.base + r.taken + 1 ≡ r.base + (r.taken + 1) = omega arith in ap (λ x. x % 2 ^ 16) e)
 
-module _ (g : Wiring) (f : Frame) (q : ℕ) (r : Vring) (at : IsCounted r) where
-  kept-if : (o : RingOp) → IsCounted (changed r o) → IsCounted (ring_after r o)
-  kept-if o new = cond_both {A = Vring} (not (waits r o) && fits r o) (changed r o) r IsCounted (λ _. new) (λ _. at)
+counted-base : (r : Vring) → IsCounted r → (n : ℕ) → n < 2 ^ 16 → IsCounted (rebased r n)
+counted-base r at n low = sym (let e : n + 0 ≡ n = omega arith in ap (λ x. x % 2 ^ 16) e ∙ mod-eq_of_lt low)
 
-  counted-op : (o : RingOp) → SetFits g f q o → IsCounted (ring_after r o)
-  counted-op (op.SetBase n) ok = kept-if (op.SetBase n) (cond_both {A = Vring} (nat_lt r.epoch limit) (record r { queue = record r.queue { next_avail = n }; epoch = r.epoch + 1; base = n; taken = 0 }) r IsCounted (λ _. sym (let e : n + 0 ≡ n = omega arith in ap (λ x. x % 2 ^ 16) e ∙ mod-eq_of_lt ok)) (λ _. at))
-  counted-op op.Taken ok = absurd ok
-  counted-op op.Put ok = absurd ok
-  counted-op op.Hold ok = absurd ok
-  counted-op (op.SetInfo desc avail used more) ok = absurd ok
-  counted-op (op.SetReady b) ok = kept-if (op.SetReady b) at
-  counted-op (op.SetSize n) ok = kept-if (op.SetSize n) at
-  counted-op (op.SetEnabled b) ok = at
-  counted-op (op.SetEventIdx b) ok = at
-  counted-op (op.SetKick k) ok = at
-  counted-op (op.SetCall c) ok = at
-  counted-op (op.SetErr e) ok = at
-  counted-op op.GetBase ok = at
-
-counted-info : (r : Vring) → IsCounted r → (desc avail used : ℕ) (more : Option ℕ) → IsCounted (ring_after r (op.SetInfo desc avail used more))
-counted-info r at desc avail used None = cond_both {A = Vring} (not (waits r (op.SetInfo desc avail used None)) && fits r (op.SetInfo desc avail used None)) (changed r (op.SetInfo desc avail used None)) r IsCounted (λ _. at) (λ _. at)
-counted-info r at desc avail used (Some n) = cond_both {A = Vring} (not (waits r (op.SetInfo desc avail used (Some n))) && fits r (op.SetInfo desc avail used (Some n))) (changed r (op.SetInfo desc avail used (Some n))) r IsCounted (λ _. at) (λ _. at)
+counted-set : (r : Vring) → IsCounted r → Kept IsCounted r
+counted-set r at = record { same = at; ready = λ b. at; size = λ n ok. at; enabled = λ b. at; event_idx = λ b. at; kick = λ k. at; call = λ c. at; err = λ e. at; addresses = λ a. at; used = λ a n. at }
 
 pub counted-writes : KeptByWrites IsCounted
-counted-writes = record { set = counted-op; info = counted-info; taken = counted-taken; put = λ r at. at; hold = λ r at. at }
+counted-writes = record { settings = counted-set; base = counted-base; taken = counted-taken; put = λ r at. at; hold = λ r at. at }
 
 -- what an Answer tells that is due a base: the ring's base plus the entries taken since, modulo 2^16
 pub answered-base : {V : Type 0} (h : Shared V) → Counted h → (p : Plan) (queue : ℕ) → p.reply ≡ next_of queue → answers_by h Answering p ≡ answer.Base queue (((ring_at h queue).base + (ring_at h queue).taken) % 2 ^ 16) ∷ []

@@ -1,5 +1,5 @@
 -- What each write of a ring keeps holds of all rings after each step.
-use Rattle.std.proofs.Common.{◌≡◌, ℕ, ◌<◌, Bool, true, false, inl, inr, List, [], ◌∷◌, length, Option, Some, None, sym, subst, slice_index_or}
+use Rattle.std.proofs.Common.{ℕ, ◌<◌, ◌^◌, Bool, true, false, inl, inr, List, [], ◌∷◌, length, Option, Some, None, sym, subst, slice_index_or}
 use Rattle.std.proofs.lemmas.Bool.{cases_eq, cases_lt}
 use Rattle.vub_model.specs.declared.entry.Entry.{Entry}
 use Rattle.vub_model.specs.declared.party.Party.{Party}
@@ -17,7 +17,8 @@ use Rattle.vub_model.specs.RingRecord.{Vring, closed_ring, changed, ring_after}
 use Rattle.vub_model.specs.Shared.{Shared, ring_at, with_ring}
 use Rattle.vub_model.specs.Wiring.{Wiring}
 use Rattle.vub_model.specs.Work.{Local, MayWork, after_work, after_take, after_put, after_said, called, used, put_said}
-use Rattle.vub_model.specs.Control.{small_after, next_used_at, tail_of}
+use Rattle.vub_proto.specs.declared.device_said.DeviceSaid.{DeviceSaid}
+use Rattle.vub_model.specs.Control.{MayControl, small_after}
 use Rattle.vub_model.specs.Frame.{Frame, frame_of}
 use Rattle.vub_model.specs.Service.{Meaning}
 use Rattle.vub_model.specs.World.{World, May, after, after_guest, phase_at}
@@ -27,25 +28,13 @@ use Rattle.vub_model.proofs.Cases.{work-cases, event-shared, take-leaf, none-lea
 use Rattle.vub_model.proofs.Counting.{ring-own, ring-other, ring-past}
 use Rattle.vub_model.proofs.Turns.{turn-cases}
 use Rattle.vub_model.proofs.Live.{looked-live, live-taken}
-use Rattle.vub_model.proofs.SchedControl.{first-fits}
-
--- a write of one ring
-pub ring-all : {V : Type 0} (h : Shared V) (p : ℕ) (r : Vring) (P : ℕ → Vring → Type 0) → (P p (ring_at h p) → P p r) → (q : ℕ) → P q (ring_at h q) → P q (ring_at (with_ring h p r) q)
-ring-all h p r P new q was =
-    elim (cases_eq q p) [
-      | inl same ↦ (let F : ℕ → Type 0 = λ q. P q (ring_at h q) → P q (ring_at (with_ring h p r) q) in (subst F (sym same) here) was)
-      | inr other ↦ (let F : Vring → Type 0 = λ x. P q x in subst F (sym (ring-other h p r q other)) was)
-    ] where
-      here : P p (ring_at h p) → P p (ring_at (with_ring h p r) p)
-      here was = elim (cases_lt p (length h.rings)) [
-        | inl within ↦ (let F : Vring → Type 0 = λ x. P p x in subst F (sym (ring-own h p r within)) (new was))
-        | inr past ↦ (let F : List Vring → Type 0 = λ l. P p (slice_index_or l p closed_ring) in subst F (sym (ring-past h p r past)) was)
-      ]
+use Rattle.vub_model.proofs.SmallRings.{ring-all, ring-small}
+use Rattle.vub_model.proofs.Settings.{Kept, rebased}
 
 -- each write of a ring keeps this
 pub record KeptByWrites (P : Vring → Type 0) : Type 0 where
-  pub set : (g : Wiring) (f : Frame) (q : ℕ) (r : Vring) → P r → (o : RingOp) → SetFits g f q o → P (ring_after r o)
-  pub info : (r : Vring) → P r → (desc avail used : ℕ) (more : Option ℕ) → P (ring_after r (op.SetInfo desc avail used more))
+  pub settings : (r : Vring) → P r → Kept P r
+  pub base : (r : Vring) → P r → (n : ℕ) → n < 2 ^ 16 → P (rebased r n)
   pub taken : (r : Vring) → P r → P (changed r op.Taken)
   pub put : (r : Vring) → P r → P (ring_after r op.Put)
   pub hold : (r : Vring) → P r → P (ring_after r op.Hold)
@@ -98,26 +87,12 @@ module _ (P : Vring → Type 0) (keeps : KeptByWrites P) where
     guest-kept (Store object offset bytes ∷ actions) = all
     guest-kept (Signal object ∷ actions) = all
 
-    small-kept : (s : Small) → Fits w.wiring (frame_of w.shared) w.control.plan.reply s (tail_of w.control.plan.steps) → AllRings P (small_after w.wiring w.shared s)
-    small-kept (Set p o) ok = set-kept w.shared p (ring_after (ring_at w.shared p) o) (λ was. keeps.set w.wiring (frame_of w.shared) p (ring_at w.shared p) was o ok.1) all
-    small-kept (Info p desc avail used) ok = set-kept w.shared p (ring_after (ring_at w.shared p) (op.SetInfo desc avail used (next_used_at w.shared.guest used))) (λ was. keeps.info (ring_at w.shared p) was desc avail used (next_used_at w.shared.guest used)) all
-    small-kept (Claim o p) ok = all
-    small-kept (Release o) ok = all
-    small-kept (Add k o n) ok = all
-    small-kept (Delete k o) ok = all
-    small-kept (Listen k o n) ok = all
-    small-kept (Unlisten k o a) ok = all
-    small-kept (Bell o) ok = all
-    small-kept (Remove k n) ok = all
-    small-kept (Insert k n) ok = all
-    small-kept (Table change) ok = all
-    small-kept (Log o offset size) ok = all
-    small-kept (Device call) ok = all
-    small-kept Answering ok = all
+    small-kept : (s : Small) (said : DeviceSaid) → MayControl w.shared w.control.plan.steps s said → AllRings P (small_after w.wiring w.shared s)
+    small-kept s said may = ring-small w calm i s said may (λ q r. P r) (λ q. keeps.settings (ring_at w.shared q) (all q)) (λ q n is low. keeps.base (ring_at w.shared q) (all q) n low)
 
     step-kept : (p : Party) (l : Play) → May w p l → AllRings P (after m w p l).shared
     step-kept party.Guest play.Guest may = guest-kept w.guest
-    step-kept party.Control (play.Control s said) may = small-kept s (first-fits w calm i s said may)
+    step-kept party.Control (play.Control s said) may = small-kept s said may
     step-kept (party.Worker k) l may = work-kept w.wiring w.shared all m k (phase_at w.phases k) l may
     step-kept p l may = absurd may
 

@@ -29,7 +29,7 @@ use Rattle.vub_model.specs.Service.{Meaning}
 use Rattle.vub_model.specs.World.{World, May, after, after_guest, phase_at, take_of, takes_by}
 use Rattle.vub_model.specs.RunOf.{party_of, next, IsRun}
 use Rattle.vub_model.specs.Running.{calm_after}
-use Rattle.vub_model.specs.Headline.{takes_of, IsFresh}
+use Rattle.vub_model.specs.Headline.{takes_of}
 use Rattle.vub_model.specs.Schedule.{Fits, SetFits, Invariant}
 use Rattle.vub_model.specs.Bases.{given_by, bases_given, numbers, count_up}
 use Rattle.vub_model.proofs.Cases.{work-cases, event-shared, take-leaf, none-leaf, said-cases}
@@ -37,16 +37,12 @@ use Rattle.vub_model.proofs.Turns.{turn-cases, turn-next}
 use Rattle.vub_model.proofs.Live.{looked-live, live-taken, serving-takes}
 use Rattle.vub_model.proofs.Counting.{field-kept, ring-own, ring-other}
 use Rattle.vub_model.proofs.FlowSteps.{pushed, left_out}
-use Rattle.vub_model.proofs.Numbers.{RingNumbered, Numbered, numbers-other, number-step, fresh-numbered}
-use Rattle.vub_model.proofs.SchedControl.{first-fits}
+use Rattle.vub_model.proofs.Numbers.{RingNumbered, Numbered, numbers-other, number-step}
+use Rattle.vub_model.proofs.Settings.{Kept, by-setting, by-info}
+use Rattle.vub_model.proofs.SmallRings.{first-fits}
 use Rattle.vub_model.proofs.SchedRuns.{IsFew, invariant-turn, few-turn}
 use Rattle.vub_model.proofs.Served.{number-small}
-use Rattle.vub_model.specs.declared.constants.Constants.{Constants}
-use Rattle.vub_model.specs.declared.setup.Setup.{Setup}
-use Rattle.vub_model.specs.ValidSetup.{IsValid}
-use Rattle.vub_model.specs.Opening.{opening, is_registered}
-use Rattle.vub_model.proofs.Openings.{opening-is-fresh}
-use Rattle.vub_model.proofs.OpeningMeets.{opening-meets, opening-untaken}
+use Rattle.vub_model.proofs.Openings.{IsFresh}
 
 -- The ring has the last of these bases, one for each epoch, and the takes of each earlier epoch are numbered on from its.
 pub record HasBases (bases : List ℕ) (r : Vring) (takes : List Take) : Type 0 where
@@ -140,23 +136,29 @@ new-epoch bases r takes n at from = record {
 }
 
 -- a change of a ring that is no new base
-epoch-kept : (g : Wiring) (f : Frame) (q : ℕ) (r : Vring) (o : RingOp) → SetFits g f q o → ((n : ℕ) → o ≡ op.SetBase n → ⊥) → ((ring_after r o).epoch ≡ r.epoch) × ((ring_after r o).base ≡ r.base)
-epoch-kept g f q r (op.SetBase n) ok other = absurd (other n refl)
-epoch-kept g f q r op.Taken ok other = absurd ok
-epoch-kept g f q r op.Put ok other = absurd ok
-epoch-kept g f q r op.Hold ok other = absurd ok
-epoch-kept g f q r (op.SetInfo desc avail used more) ok other = absurd ok
-epoch-kept g f q r (op.SetReady b) ok other = cond_both {A = Vring} (not (waits r (op.SetReady b)) && fits r (op.SetReady b)) (changed r (op.SetReady b)) r (λ x. (x.epoch ≡ r.epoch) × (x.base ≡ r.base)) (λ _. (refl, refl)) (λ _. (refl, refl))
-epoch-kept g f q r (op.SetSize n) ok other = cond_both {A = Vring} (not (waits r (op.SetSize n)) && fits r (op.SetSize n)) (changed r (op.SetSize n)) r (λ x. (x.epoch ≡ r.epoch) × (x.base ≡ r.base)) (λ _. (refl, refl)) (λ _. (refl, refl))
-epoch-kept g f q r (op.SetEnabled b) ok other = (refl, refl)
-epoch-kept g f q r (op.SetEventIdx b) ok other = (refl, refl)
-epoch-kept g f q r (op.SetKick k) ok other = (refl, refl)
-epoch-kept g f q r (op.SetCall c) ok other = (refl, refl)
-epoch-kept g f q r (op.SetErr e) ok other = (refl, refl)
-epoch-kept g f q r op.GetBase ok other = (refl, refl)
+abbrev SameEpoch : Vring → Vring → Type 0
+SameEpoch r x = (x.epoch ≡ r.epoch) × (x.base ≡ r.base)
 
-info-epoch : (r : Vring) (desc avail used : ℕ) (more : Option ℕ) → ((ring_after r (op.SetInfo desc avail used more)).epoch ≡ r.epoch) × ((ring_after r (op.SetInfo desc avail used more)).base ≡ r.base)
-info-epoch r desc avail used more = cond_both {A = Vring} (not (waits r (op.SetInfo desc avail used more)) && fits r (op.SetInfo desc avail used more)) (changed r (op.SetInfo desc avail used more)) r (λ x. (x.epoch ≡ r.epoch) × (x.base ≡ r.base)) (λ _. (refl, refl)) (λ _. (refl, refl))
+epochs-kept : (r : Vring) → Kept (SameEpoch r) r
+epochs-kept r =
+    record {
+      same = (refl, refl);
+      ready = λ b. (refl, refl);
+      size = λ n ok. (refl, refl);
+      enabled = λ b. (refl, refl);
+      event_idx = λ b. (refl, refl);
+      kick = λ k. (refl, refl);
+      call = λ c. (refl, refl);
+      err = λ e. (refl, refl);
+      addresses = λ a. (refl, refl);
+      used = λ a n. (refl, refl);
+    }
+
+epoch-kept : (g : Wiring) (f : Frame) (q : ℕ) (r : Vring) (o : RingOp) → SetFits g f q o → ((n : ℕ) → o ≡ op.SetBase n → ⊥) → ((ring_after r o).epoch ≡ r.epoch) × ((ring_after r o).base ≡ r.base)
+epoch-kept g f q r o ok other = by-setting (SameEpoch r) r (epochs-kept r) g f q o ok (λ n is low. absurd (other n is))
+
+info-epoch : (r : Vring) (desc avail used : ℕ) (more : Option ℕ) → SameEpoch r (ring_after r (op.SetInfo desc avail used more))
+info-epoch r desc avail used more = by-info (SameEpoch r) r (epochs-kept r) desc avail used more
 
 module _ {V : Type 0} (w : World V) (calm : ℕ → Bool) (i : Invariant w calm) (numbered : Numbered w) (bases : ℕ → List ℕ) (from : AllFrom w bases) where
   abbrev h : Shared V

@@ -1,5 +1,5 @@
 -- A queue belongs to the first worker whose mask has its bit, and stands on that worker's list at its event number.
-use Rattle.std.proofs.Common.{◌≡◌, ℕ, ◌%◌, ◌^◌, ◌==◌, ◌<◌, ◌≤◌, Bool, true, false, inl, inr, List, length, get_or, Option, Some, None, position, slice_index_or, refl, sym, ap, ◌∙◌, subst, arith}
+use Rattle.std.proofs.Common.{◌≡◌, ℕ, ◌%◌, ◌^◌, ◌==◌, ◌<◌, false, inl, inr, length, Option, Some, None, position, slice_index_or, refl, sym, ap, ◌∙◌, arith}
 use Rattle.std.proofs.Math.Nat.{zero-div}
 use Rattle.std.proofs.lemmas.Bool.{cases_lt}
 use Rattle.std.proofs.lemmas.List.{get_or_past}
@@ -8,7 +8,7 @@ use Rattle.std.proofs.lemmas.List.Sums.{fails_before_first}
 use Rattle.std.proofs.lemmas.Option.{slice_get-get_or}
 use Rattle.vub_mem.proofs.Finds.{position_none}
 use Rattle.vub_model.specs.declared.wiring.Place.{Place}
-use Rattle.vub_model.specs.Wiring.{Wiring, has_bit, queues_of, number_in, place_with, place_of, IsPlaced, IsFirstWith, IsFirstPlace, PlacesAreFirst}
+use Rattle.vub_model.specs.Wiring.{Wiring, has_bit, queues_of, number_in, place_with, place_of, IsPlaced, IsFirstPlace, PlacesAreFirst}
 use Rattle.vub_model.proofs.Places.{slot}
 
 -- no queue has the bit of a mask that is not there

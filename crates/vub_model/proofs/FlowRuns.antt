@@ -24,7 +24,8 @@ use Rattle.vub_model.specs.Work.{Local, MayWork, after_work, after_take, after_p
 use Rattle.vub_model.specs.World.{World, May, after, after_guest, after_local, phase_at, take_of, used_of, after_control}
 use Rattle.vub_model.specs.RunOf.{IsRun, next, party_of}
 use Rattle.vub_model.specs.Running.{InHand, InFlightOrHeld}
-use Rattle.vub_model.specs.Headline.{Asked, asked_take, asked_at, asked, OnceInOrder, IsReplay, IsFresh, IsWaiting}
+use Rattle.vub_model.specs.Headline.{Asked, asked_take, asked_at, asked, OnceInOrder, IsReplay}
+use Rattle.vub_model.proofs.Openings.{IsFresh, IsWaiting}
 use Rattle.vub_model.proofs.Cases.{work-cases, heard-leaf, event-shared, take-leaf, none-leaf, said-cases}
 use Rattle.vub_model.proofs.Turns.{turn-cases, turn-next}
 use Rattle.vub_model.proofs.Owners.{Owned, OwnPhase, within-phases}
@@ -67,7 +68,7 @@ module _ {V : Type 0} (m : Meaning V) (w : World V) (calls : List Asked) (flow :
       (λ e reply queues was own. put w calls flow k within e reply queues own was)
 
   flow-worker : (k : ℕ) (l : Play) → MayWork w.wiring k w.shared (phase_at w.phases k) l → Flow (after m w (party.Worker k) l) (calls ++ asked_by m w.shared.service (phase_at w.phases k) l)
-  flow-worker k l may = flow-inside k (within-phases w.wiring w.shared w.phases k l may) (phase_at w.phases k) l may refl (owned.phases k)
+  flow-worker k l may = flow-inside k (within-phases w.wiring w.shared w.phases k l may) (phase_at w.phases k) l may refl (owned k)
 
   flow-guest : (actions : List Guest) → Flow (after_guest w actions) (calls ++ [])
   flow-guest [] = rw (append-nil calls) flow
@@ -115,7 +116,7 @@ module _ {V : Type 0} (w : World V) (owned : Owned w) (q : ℕ) (takes : List Ta
   flow-goes flight.Held is flow =
       let way : OnceInOrder takes calls uses = record { unasked = []; unused = flow.1.0 ∷ []; served = flow.0 ∙ sym (append-nil (map asked_take calls)); used = flow.1.1; at_most_one = omega arith } in
       (way, inr (record { flight = is; worker = flow.3.0; has = flow.3.1; stopped = flow.3.2 }))
-  flow-goes flight.InFlight is flow = flies-goes flow.0 (phase_at w.phases flow.0) refl (owned.phases flow.0) flow.1
+  flow-goes flight.InFlight is flow = flies-goes flow.0 (phase_at w.phases flow.0) refl (owned flow.0) flow.1
 
 waiting-none : (phase : Phase) → IsWaiting phase → queue_in phase ≡ None
 waiting-none Idle waits = refl

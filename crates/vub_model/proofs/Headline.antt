@@ -1,14 +1,13 @@
 -- The headline: every run of a valid set-up is faithful, if its schedule has fewer turns than the limit.
-use Rattle.std.proofs.Common.{◌≡◌, ℕ, ◌<◌, List, [], ◌∷◌, length, refl}
+use Rattle.std.proofs.Common.{ℕ, ◌<◌, List, [], ◌∷◌, length, refl}
 use Rattle.vub_model.specs.declared.constants.Constants.{Constants}
 use Rattle.vub_model.specs.declared.play.Play.{Play}
 use Rattle.vub_model.specs.declared.setup.Setup.{Setup}
-use Rattle.vub_model.specs.Bases.{bases_given, FromBases}
 use Rattle.vub_model.specs.Entries.{TakesItsChain, TakesByFlags, KeepsItsEntry, UsesItsReply}
 use Rattle.vub_model.specs.Faithful.{IsFaithful}
-use Rattle.vub_model.specs.Headline.{asked, takes_of, asked_of, uses_of, bases_of, IsServed}
+use Rattle.vub_model.specs.Headline.{asked, takes_of, asked_of, uses_of, IsServed}
 use Rattle.vub_model.specs.Opening.{opening, wiring_of}
-use Rattle.vub_model.specs.RingRecord.{Vring, limit}
+use Rattle.vub_model.specs.RingRecord.{limit}
 use Rattle.vub_model.specs.RunOf.{IsRun}
 use Rattle.vub_model.specs.Service.{Meaning}
 use Rattle.vub_model.specs.Shared.{ring_at}
@@ -18,12 +17,12 @@ use Rattle.vub_model.proofs.Bells.{bells-ring}
 use Rattle.vub_model.proofs.ByFlags.{by-flags}
 use Rattle.vub_model.proofs.ChainsTaken.{takes-chain}
 use Rattle.vub_model.proofs.Confined.{run-is-confined}
-use Rattle.vub_model.proofs.Epochs.{HasBases, epochs-from, opening-from}
+use Rattle.vub_model.proofs.Epochs.{epochs-from, opening-from}
 use Rattle.vub_model.proofs.FirstPlaces.{places-first}
 use Rattle.vub_model.proofs.FlowRuns.{replay-run, Goes, flow-goes, fresh-flow}
 use Rattle.vub_model.proofs.Live.{takes-are-live}
 use Rattle.vub_model.proofs.NoneLost.{none-lost}
-use Rattle.vub_model.proofs.Numbers.{Numbered, fresh-numbered}
+use Rattle.vub_model.proofs.Numbers.{fresh-numbered}
 use Rattle.vub_model.proofs.Openings.{opening-is-fresh}
 use Rattle.vub_model.proofs.OpeningSound.{first-base, opening-sound}
 use Rattle.vub_model.proofs.RepliesStand.{keeps-entry, uses-reply}

@@ -22,7 +22,8 @@ use Rattle.vub_model.specs.Wiring.{Wiring}
 use Rattle.vub_model.specs.Work.{Local, MayWork, after_work, after_take, after_took, after_put, after_said, called, used, entry_of, looked, put_said}
 use Rattle.vub_model.specs.World.{World, May, after, after_guest, phase_at, take_of, takes_by, after_control}
 use Rattle.vub_model.specs.Bases.{numbers, count_up}
-use Rattle.vub_model.specs.Headline.{takes_of, IsFresh}
+use Rattle.vub_model.specs.Headline.{takes_of}
+use Rattle.vub_model.proofs.Openings.{IsFresh}
 use Rattle.vub_model.proofs.Cases.{work-cases, event-shared, take-leaf, none-leaf, said-cases}
 use Rattle.vub_model.proofs.Live.{looked-live, live-parts, live-taken, serving-takes}
 use Rattle.vub_model.proofs.Flow.{field-kept}
@@ -86,7 +87,7 @@ module _ {V : Type 0} (g : Wiring) (h : Shared V) (takes : List Take) (numbered 
       let t : Take = take_of (entry_of p (ring_at h p) c) in
       let S : Vring → Type 0 = λ r. AllNumbered (slice_set h.rings p r) (takes ++ t ∷ []) in
       let P : ℕ → Type 0 = λ q. RingNumbered (slice_index_or (slice_set h.rings p r) q closed_ring) (takes_of q (takes ++ t ∷ [])) in
-      let here : P p = rw (get_or-set_same h.rings p r closed_ring (on-within h.rings p (live-parts (ring_at h p) live).0), pushed (λ (t : Take). t.queue) p takes t refl) (number-take (ring_at h p).epoch (ring_at h p).base (ring_at h p).taken (takes_of p takes) t refl refl (numbered p)) in
+      let here : P p = rw (get_or-set_same h.rings p r closed_ring (on-within h.rings p (live-parts (ring_at h p) live).on), pushed (λ (t : Take). t.queue) p takes t refl) (number-take (ring_at h p).epoch (ring_at h p).base (ring_at h p).taken (takes_of p takes) t refl refl (numbered p)) in
       let all : S r = λ q. elim (cases_eq q p) [
         | inl same ↦ subst P (sym same) here
         | inr other ↦ rw (get_or-set_other h.rings p q r closed_ring other, left_out (λ (t : Take). t.queue) q takes t (λ e. other (sym e))) (numbered q)

@@ -32,7 +32,7 @@ use Rattle.vub_model.specs.World.{phase_at}
 use Rattle.vub_model.specs.Work.{is_object}
 use Rattle.vub_model.specs.ValidSetup.{or_else, is_event, is_event_or_none, is_free, is_free_or_none, is_first_of_queue, is_aligned, ring_is_sound, ring_fault, device_fault, exit_fault, is_greatest_size, region_fault, given_table_fault, guest_fault, fault_of, IsValid}
 use Rattle.vub_model.specs.Opening.{flags_of, opening_events, opened_worker, wiring_of, listed, exit_member, opening_members, given_vring, ring_from, opening_rings, claimed, joined, placed, registered_kick, registered, opening_table, before_rings, opening, is_registered, requests_of, new_control}
-use Rattle.vub_model.specs.Schedule.{IsKick, IsBellOrExit, IsOwn, known_at, claim_at, is_member, Linked, Settled, PhaseFits, HasInHand, ringing, waiting, Invariant, Wired, IsListener, RequestFits, NoBell}
+use Rattle.vub_model.specs.Schedule.{IsKick, IsBellOrExit, IsOwn, known_at, claim_at, is_member, Linked, Settled, PhaseFits, HasInHand, ringing, waiting, Invariant, Wired, IsListener, RequestFits}
 use Rattle.vub_model.proofs.Places.{place-is}
 use Rattle.vub_model.proofs.SchedWork.{known-ring, kick-ring, claim-event}
 use Rattle.vub_model.proofs.Waking.{has-none}

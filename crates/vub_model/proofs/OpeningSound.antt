@@ -1,9 +1,10 @@
 -- What is known of the world wherever a run comes to is known of the opening of a valid set-up.
-use Rattle.std.proofs.Common.{◌≡◌, ℕ, ◌+◌, ◌%◌, ◌^◌, ◌<◌, ◌≤◌, ◌⊎◌, inl, inr, Bool, List, [], length, find, eqb, Option, Some, None, refl, sym, ap, ◌∙◌, subst, arith}
+use Rattle.std.proofs.Common.{◌≡◌, ℕ, ◌+◌, ◌%◌, ◌^◌, ◌<◌, inl, inr, [], find, eqb, Option, Some, None, refl, sym, ap, subst, arith, ◌∙◌}
 use Rattle.std.specs.Int.{is_power_of_two}
 use Rattle.std.specs.Prelude.{true, count_ones}
 use Rattle.std.specs.Int.Count.{ones-ones}
 use Rattle.std.proofs.lemmas.Bool.{eq-eqb}
+use Rattle.std.proofs.Math.Nat.{mod-mod}
 use Rattle.vub_model.specs.declared.constants.Constants.{Constants}
 use Rattle.vub_model.specs.declared.setup.GivenRing.{GivenRing}
 use Rattle.vub_model.specs.declared.setup.Setup.{Setup}
@@ -14,7 +15,7 @@ use Rattle.vub_model.specs.RingRecord.{Vring, closed_ring, limit}
 use Rattle.vub_model.specs.Shared.{ring_at}
 use Rattle.vub_model.specs.ValidSetup.{IsValid}
 use Rattle.vub_model.proofs.OpeningMeets.{IsSoundSize, rings-sound, given-sound, greatest-size, found-in, opening-ring, opening-meets, opening-untaken}
-use Rattle.vub_model.proofs.Sized.{IsSize, IsSized}
+use Rattle.vub_model.proofs.Sized.{IsSized}
 use Rattle.vub_model.proofs.Sound.{IsSound}
 
 -- 1 is a power of two
@@ -34,7 +35,7 @@ module _ {V : Type 0} (constants : Constants) (setup : Setup) (v : V) (valid : I
 
   counted-from : (given : Option GivenRing) → IsCounted (ring_from constants.max given)
   counted-from None = refl
-  counted-from (Some r) = let e : r.base ≡ r.base + 0 = omega arith in ap (λ n. n % 2 ^ 16) e
+  counted-from (Some r) = let e : r.base % 2 ^ 16 ≡ r.base % 2 ^ 16 + 0 = omega arith in sym (mod-mod r.base (2 ^ 16)) ∙ ap (λ n. n % 2 ^ 16) e
 
   sized-from : (q : ℕ) (given : Option GivenRing) → found q ≡ given → IsSized (ring_from constants.max given)
   sized-from q None is = let most = greatest-size constants setup valid in record { power = most.0; below = omega arith; few = most.1 }

@@ -1,23 +1,19 @@
 -- A worker keeps the entry that it has in hand until it uses it, and the reply of a use stands in the memory after its turn.
-use Rattle.std.proofs.Common.{◌≡◌, ℕ, suc, ◌<◌, Bool, true, false, not, ◌&&◌, ◌⊎◌, cond, inl, inr, List, [], ◌∷◌, ◌++◌, Option, Some, None, Result, Ok, Err, refl, sym, ap, ◌∙◌, subst, arith}
+use Rattle.std.proofs.Common.{◌≡◌, ℕ, suc, Bool, true, false, not, ◌⊎◌, cond, inl, inr, List, [], ◌∷◌, Option, Some, None, Result, Ok, Err, refl, sym, ap, ◌∙◌, subst}
 use Rattle.std.specs.List.{AllByRecursion}
-use Rattle.std.proofs.lemmas.Bool.{cases_eq, not-false}
+use Rattle.std.proofs.lemmas.Bool.{cases_eq}
 use Rattle.std.proofs.lemmas.List.{append-nil, get_or-set_same, get_or-set_other}
-use Rattle.vub_mem.specs.Memory.{Guest}
 use Rattle.vub_queue.specs.Notification.{wants_notification, used_event_covers}
 use Rattle.vub_queue.specs.Put.{put_answer, put_guest, ring_used, room_covers, used_covers}
-use Rattle.vub_queue.specs.declared.chain.Chain.{Chain}
 use Rattle.vub_queue.specs.declared.putting.PutFault.{PutFault}
 use Rattle.vub_queue.specs.declared.putting.PutFault.TheVariants.{RoomOutside, RingOutside}
-use Rattle.vub_queue.specs.declared.took.Took.TheVariants as took
-use Rattle.vub_proto.specs.declared.device_said.DeviceSaid.{DeviceSaid}
 use Rattle.vub_proto.specs.declared.used.Used.{Used}
 use Rattle.vub_model.specs.declared.cause.StopCause.TheVariants.{Exit}
 use Rattle.vub_model.specs.declared.entry.Entry.{Entry}
 use Rattle.vub_model.specs.declared.party.Party.{Party}
 use Rattle.vub_model.specs.declared.party.Party.TheVariants as party
 use Rattle.vub_model.specs.declared.phase.Phase.{Phase}
-use Rattle.vub_model.specs.declared.phase.Phase.TheVariants.{Idle, Polled, Sweep, Heard, Serving, Taken, Served, Stopped}
+use Rattle.vub_model.specs.declared.phase.Phase.TheVariants.{Idle, Polled, Sweep, Heard, Serving, Served, Stopped}
 use Rattle.vub_model.specs.declared.play.Play.{Play}
 use Rattle.vub_model.specs.declared.play.Play.TheVariants as play
 use Rattle.vub_model.specs.declared.setup.Guest.{Guest as Action}
@@ -25,8 +21,8 @@ use Rattle.vub_model.specs.Entries.{IsNextIn, HasEntry, KeepsItsEntry, UsesInHan
 use Rattle.vub_model.specs.RingRecord.{has_addresses}
 use Rattle.vub_model.specs.Service.{Meaning}
 use Rattle.vub_model.specs.Shared.{Shared, ring_at, pending_at}
-use Rattle.vub_model.specs.Wiring.{Wiring, queues_of}
-use Rattle.vub_model.specs.Work.{Local, MayWork, after_work, after_take, after_said, after_heard, called, used, put_said, serving, entry_of, queues_numbered}
+use Rattle.vub_model.specs.Wiring.{queues_of}
+use Rattle.vub_model.specs.Work.{Local, MayWork, after_work, after_take, after_said, called, used, put_said, serving, queues_numbered}
 use Rattle.vub_model.specs.World.{World, May, after, after_guest, phase_at, uses_by, used_of, if_used, after_control}
 use Rattle.vub_model.specs.RunOf.{Turn}
 use Rattle.vub_model.proofs.Cases.{work-cases, heard-leaf, event-phase, take-leaf, said-cases}

@@ -17,7 +17,8 @@ use Rattle.vub_model.specs.Schedule.{Invariant, Fits}
 use Rattle.vub_model.proofs.Turns.{turn-cases, turn-next}
 use Rattle.vub_model.proofs.SchedWork.{sched-worker, taken-worker}
 use Rattle.vub_model.proofs.SchedGuest.{sched-guest}
-use Rattle.vub_model.proofs.SchedControl.{sched-control, first-fits, taken-changed, taken-info}
+use Rattle.vub_model.proofs.SchedControl.{sched-control}
+use Rattle.vub_model.proofs.SmallRings.{small-leaves}
 use Rattle.vub_model.proofs.Resting.{none-left}
 use Rattle.vub_model.proofs.Counting.{ring-own, ring-other, ring-past}
 use Rattle.vub_model.specs.declared.ring_op.RingOp.TheVariants as op
@@ -48,41 +49,11 @@ guest-few w [] q = omega arith
 guest-few w (Store object offset bytes ∷ actions) q = omega arith
 guest-few w (Signal object ∷ actions) q = omega arith
 
--- a control step takes none
-taken-set : {V : Type 0} (h : Shared V) (p : ℕ) (r : Vring) → r.taken ≤ (ring_at h p).taken → (q : ℕ) → (ring_at (with_ring h p r) q).taken ≤ (ring_at h q).taken + 1
-taken-set h p r low q =
-    elim (cases_eq q p) [
-      | inl same ↦ elim (cases_lt p (length h.rings)) [
-        | inl within ↦ (let P : ℕ → Type 0 = λ q. (ring_at (with_ring h p r) q).taken ≤ (ring_at h q).taken + 1 in subst P (sym same) (omega (arith, low, ap (λ (x : Vring). x.taken) (ring-own h p r within))))
-        | inr past ↦ omega (arith, ap (λ l. (slice_index_or l q closed_ring).taken) (ring-past h p r past))
-      ]
-      | inr other ↦ omega (arith, ap (λ (x : Vring). x.taken) (ring-other h p r q other))
-    ]
-
-taken-small : {V : Type 0} (w : World V) (calm : ℕ → Bool) → Invariant w calm → (s : Small) (said : DeviceSaid) → MayControl w.shared w.control.plan.steps s said → (q : ℕ) → (ring_at (after_control w s said).shared q).taken ≤ (ring_at w.shared q).taken + 1
-taken-small w calm i s said may q = by s (first-fits w calm i s said may) where
-  by : (s : Small) → Fits w.wiring (frame_of w.shared) w.control.plan.reply s (tail_of w.control.plan.steps) → (ring_at (small_after w.wiring w.shared s) q).taken ≤ (ring_at w.shared q).taken + 1
-  by (Set p o) fits = taken-set w.shared p (ring_after (ring_at w.shared p) o) (taken-changed w.wiring (frame_of w.shared) p (ring_at w.shared p) o fits.1) q
-  by (Info p desc avail used) fits = taken-set w.shared p (ring_after (ring_at w.shared p) (op.SetInfo desc avail used (next_used_at w.shared.guest used))) (taken-info (ring_at w.shared p) desc avail used (next_used_at w.shared.guest used)) q
-  by (Claim o p) fits = omega arith
-  by (Release o) fits = omega arith
-  by (Add k o n) fits = omega arith
-  by (Delete k o) fits = omega arith
-  by (Listen k o n) fits = omega arith
-  by (Unlisten k o a) fits = omega arith
-  by (Bell o) fits = omega arith
-  by (Remove k n) fits = omega arith
-  by (Insert k n) fits = omega arith
-  by (Table change) fits = omega arith
-  by (Log o offset size) fits = omega arith
-  by (Device call) fits = omega arith
-  by Answering fits = omega arith
-
 -- and takes one entry at most
 few-step : {V : Type 0} (m : Meaning V) (w : World V) (calm : ℕ → Bool) → IsFew w 0 → Invariant w calm → (p : Party) (l : Play) → May w p l → (q : ℕ) → (ring_at (after m w p l).shared q).taken ≤ (ring_at w.shared q).taken + 1
 few-step m w calm few i party.Guest play.Guest may q = guest-few w w.guest q
 few-step m w calm few i (party.Worker k) l may q = taken-worker m w calm (λ q. omega (arith, few q)) i k l may q
-few-step m w calm few i party.Control (play.Control s said) may q = taken-small w calm i s said may q
+few-step m w calm few i party.Control (play.Control s said) may q = let l = (small-leaves w calm i s said may q).taken in omega (arith, l)
 few-step m w calm few i p l may q = absurd may
 
 -- where fewer queues are calm the invariant says less

@@ -1,6 +1,6 @@
 -- What is known of the world wherever a run comes to: the schedule invariant, with fewer takes than the limit, and the
 -- numbers and sizes of the rings.
-use Rattle.std.proofs.Common.{◌≡◌, ℕ, suc, Bool, List, length, arith}
+use Rattle.std.proofs.Common.{ℕ, suc, Bool, List, length, arith}
 use Rattle.vub_model.specs.declared.party.Party.{Party}
 use Rattle.vub_model.specs.declared.play.Play.{Play}
 use Rattle.vub_model.specs.EntryNumber.{IsCounted}

@@ -1,6 +1,6 @@
--- The steps of a worker, case by case, and what each of them leads to.
-use Rattle.std.proofs.Common.{◌≡◌, ℕ, ◌<◌, Bool, true, false, cond, not, ◌&&◌, inl, inr, List, [], ◌∷◌, length, Option, is_some, Result, Ok, Err, refl, subst, arith, eqb, nat_lt}
-use Rattle.std.proofs.lemmas.Bool.{cond_both, lt-ltb, le-ltb, ltb-false, eq-eqb, ne_eqb}
+-- What a worker's Event, Take and Put lead to, where the schedule invariant holds.
+use Rattle.std.proofs.Common.{◌≡◌, ℕ, ◌<◌, Bool, true, false, cond, not, ◌&&◌, inl, inr, List, [], ◌∷◌, length, Option, is_some, refl, sym, ◌∙◌, subst, arith, eqb, nat_lt}
+use Rattle.std.proofs.lemmas.Bool.{cond_both, cond-true, lt-ltb, le-ltb, ltb-false, eq-eqb, ne_eqb}
 use Rattle.vub_queue.specs.declared.chain.Chain.{Chain}
 use Rattle.vub_queue.specs.declared.took.Took.{Took}
 use Rattle.vub_queue.specs.declared.took.Took.TheVariants as took
@@ -27,56 +27,9 @@ use Rattle.vub_model.specs.Wiring.{Wiring, opened_at, queues_of, IsPlaced}
 use Rattle.vub_model.specs.Work.{Local, MayWork, serving, stopped, is_object, after_kick, after_bell, after_event, after_heard, has_token, may_take, looked, entry_of, after_none, after_took, after_take, put_said, why_of, used, called, after_put, after_said}
 use Rattle.vub_model.specs.Schedule.{PhaseFits}
 use Rattle.vub_model.proofs.Places.{slot, few-queues}
+use Rattle.vub_model.proofs.Cases.{take-leaf as look-leaf, said-cases}
+use Rattle.vub_model.proofs.Live.{Live, live-parts, live-from, looked-live, live-taken}
 use Rattle.vub_model.specs.declared.cause.Why.{Why}
-
--- a worker's step is one of seven
-pub work-cases : {V : Type 0} (g : Wiring) (worker : ℕ) (h : Shared V) (P : Phase → Play → Type 0)
-    → ((object : ℕ) → MayWork g worker h Idle (play.Poll object) → P Idle (play.Poll object))
-    → ((object token : ℕ) → P (Polled object token) play.Event)
-    → P Sweep play.Sweep
-    → ((token : ℕ) (said : DeviceSaid) → P (Heard token) (play.Hear said))
-    → ((queues : List ℕ) → P (Serving queues) play.Take)
-    → ((e : Entry) (queues : List ℕ) → P (Taken e queues) play.Serve)
-    → ((e : Entry) (reply queues : List ℕ) → P (Served e reply queues) play.Put)
-    → (phase : Phase) (l : Play) → MayWork g worker h phase l → P phase l
-work-cases g worker h P poll event sweep hear take serve put Idle (play.Poll object) may = poll object may
-work-cases g worker h P poll event sweep hear take serve put (Polled object token) play.Event may = event object token
-work-cases g worker h P poll event sweep hear take serve put Sweep play.Sweep may = sweep
-work-cases g worker h P poll event sweep hear take serve put (Heard token) (play.Hear said) may = hear token said
-work-cases g worker h P poll event sweep hear take serve put (Serving queues) play.Take may = take queues
-work-cases g worker h P poll event sweep hear take serve put (Taken e queues) play.Serve may = serve e queues
-work-cases g worker h P poll event sweep hear take serve put (Served e reply queues) play.Put may = put e reply queues
-work-cases g worker h P poll event sweep hear take serve put phase l may = absurd may
-
--- the device has handled the event, or refused it
-pub heard-leaf : (P : Phase → Type 0) → P Idle → ((w : Why) → P (stopped w)) → (said : DeviceSaid) → P (after_heard said)
-heard-leaf P idle ends outcome.Done = idle
-heard-leaf P idle ends (outcome.Content bytes) = idle
-heard-leaf P idle ends (outcome.Object object) = idle
-heard-leaf P idle ends (outcome.Number n) = idle
-heard-leaf P idle ends (outcome.Refused n) = ends (why.Device n)
-
--- what is_live asks
-pub record Live (r : Vring) : Type 0 where
-  pub on : is_on r ≡ true
-  pub addresses : has_addresses r ≡ true
-  pub free : is_in_flight r.flight ≡ false
-  pub few : nat_lt r.taken limit ≡ true
-
-live-if : (a b c d : Bool) → a && b && not c && d ≡ true → (a ≡ true) × (b ≡ true) × (c ≡ false) × (d ≡ true)
-live-if true true false true h = (refl, refl, refl, refl)
-live-if true true false false h = absurd cc
-live-if true true true d h = absurd cc
-live-if true false c d h = absurd cc
-live-if false b c d h = absurd cc
-
-pub live-parts : (r : Vring) → may_take r ≡ true → Live r
-live-parts r h =
-    let all = live-if (is_on r) (has_addresses r) (is_in_flight r.flight) (nat_lt r.taken limit) h in
-    record { on = all.0; addresses = all.1; free = all.2; few = all.3 }
-
-pub live-from : (r : Vring) → Live r → may_take r ≡ true
-live-from r l = rw (l.on, l.addresses, l.free, l.few) refl
 
 -- what an op leaves that fits and does not wait
 abbrev pub taken-ring : Vring → Vring
@@ -116,40 +69,33 @@ module _ {V : Type 0} (g : Wiring) (worker : ℕ) (h : Shared V) (P : Local V �
       let below : nat_lt token (length (queues_of g worker)) ≡ true = lt-ltb token (length (queues_of g worker)) at.0 in
       rw (below, at.1) (kick-leaf number.0 object (reads number.0 number.1) stale)
 
-  -- a take finds an entry of a live ring, or nothing, or damage
-  took-leaf : (queue : ℕ) (rest : List ℕ)
-      → ((c : Chain) → Live (ring_at h queue) → P (record { shared = with_ring h queue (taken-ring (ring_at h queue)); phase = Taken (entry_of queue (ring_at h queue) c) (queue ∷ rest) }))
-      → ((Live (ring_at h queue) → IsEmpty h.guest (ring_at h queue).queue) → P (record { shared = after_none h queue; phase = serving rest }))
-      → ((d : Damage) → P (record { shared = h; phase = stopped (why.Damage d) }))
-      → (b : Bool) → may_take (ring_at h queue) ≡ b → (t : Took) → TakenSo h.guest (ring_at h queue).queue (took_of h.guest (ring_at h queue).queue) → cond b (took_of h.guest (ring_at h queue).queue) took.None ≡ t → P (after_took h queue rest t)
-  took-leaf queue rest entry none damaged true live (took.Entry c) so is =
-      let l = live-parts (ring_at h queue) live in
-      rw (l.free, l.few) (entry c l)
-  took-leaf queue rest entry none damaged true live took.None so is = none (λ l. (let T : Took → Type 0 = λ t. TakenSo h.guest (ring_at h queue).queue t in subst T is so).0)
-  took-leaf queue rest entry none damaged true live (took.Damaged d) so is = damaged d
-  took-leaf queue rest entry none damaged false live (took.Entry c) so is = absurd cc
-  took-leaf queue rest entry none damaged false live took.None so is = none (λ l. let yes = live-from (ring_at h queue) l in absurd cc)
-  took-leaf queue rest entry none damaged false live (took.Damaged d) so is = absurd cc
+  -- where a look at a live ring gives nothing, the ring is empty
+  none-empty : (queue : ℕ) → looked h queue ≡ took.None → Live (ring_at h queue) → IsEmpty h.guest (ring_at h queue).queue
+  unfolding looked
+  none-empty queue is l =
+      let took-is : took_of h.guest (ring_at h queue).queue ≡ took.None = sym (cond-true {A = Took} (may_take (ring_at h queue)) (took_of h.guest (ring_at h queue).queue) took.None (live-from (ring_at h queue) l)) ∙ is in
+      let T : Took → Type 0 = λ t. TakenSo h.guest (ring_at h queue).queue t in
+      (subst T took-is (takes_some h.guest (ring_at h queue).queue)).0
 
+  -- a take finds an entry of a live ring, or nothing, or damage
   pub take-leaf : (queue : ℕ) (rest : List ℕ)
       → ((c : Chain) → Live (ring_at h queue) → P (record { shared = with_ring h queue (taken-ring (ring_at h queue)); phase = Taken (entry_of queue (ring_at h queue) c) (queue ∷ rest) }))
       → ((Live (ring_at h queue) → IsEmpty h.guest (ring_at h queue).queue) → P (record { shared = after_none h queue; phase = serving rest }))
       → ((d : Damage) → P (record { shared = h; phase = stopped (why.Damage d) }))
       → P (after_take h (queue ∷ rest))
-  unfolding looked
   take-leaf queue rest entry none damaged =
-      took-leaf queue rest entry none damaged (may_take (ring_at h queue)) refl (looked h queue) (takes_some h.guest (ring_at h queue).queue) refl
+      look-leaf h P queue rest
+      (λ c is.
+      let live = looked-live h queue c is in
+      let R : Vring → Type 0 = λ r. P (record { shared = with_ring h queue r; phase = Taken (entry_of queue (ring_at h queue) c) (queue ∷ rest) }) in
+      subst R (sym (live-taken (ring_at h queue) live)) (entry c (live-parts (ring_at h queue) live)))
+      (λ is. none (none-empty queue is))
+      (λ d is. damaged d)
 
   -- a put is done or refused
-  said-leaf : (e : Entry) (reply queues : List ℕ) (said : Result Bool PutFault)
-      → ((wanted : Bool) → P (record { shared = called (used h e reply) (ring_at h e.queue).call wanted; phase = serving queues }))
-      → ((fault : PutFault) → P (record { shared = with_ring h e.queue (changed (ring_at h e.queue) op.Hold); phase = stopped (why_of fault) }))
-      → P (after_said h e reply queues said)
-  said-leaf e reply queues (Ok wanted) done refused = done wanted
-  said-leaf e reply queues (Err fault) done refused = refused fault
-
   pub put-leaf : (e : Entry) (reply queues : List ℕ)
       → ((wanted : Bool) → P (record { shared = called (used h e reply) (ring_at h e.queue).call wanted; phase = serving queues }))
       → ((fault : PutFault) → P (record { shared = with_ring h e.queue (changed (ring_at h e.queue) op.Hold); phase = stopped (why_of fault) }))
       → P (after_put h e reply queues)
-  put-leaf e reply queues done refused = said-leaf e reply queues (put_said h e reply) done refused
+  put-leaf e reply queues done refused =
+      said-cases (put_said h e reply) (λ said. P (after_said h e reply queues said)) (λ wanted is. done wanted) (λ fault is. refused fault)

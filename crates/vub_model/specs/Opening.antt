@@ -101,7 +101,7 @@ given_vring max r =
       enabled = r.enabled;
       flight = flight.None;
       epoch = 0;
-      base = r.base;
+      base = r.base % 2 ^ 16;
       taken = 0;
     }
 
