@@ -335,7 +335,7 @@ impl VringEpollHandler {
     {
         match self.standing.take() {
             Phase::Served(entry, reply, queues) => {
-                match parts.put(alloc, entry.queue, &entry, reply.as_slice()) {
+                match parts.put(alloc, &entry, reply.as_slice()) {
                     Ok(PutSaid::Done) => {
                         self.stand(serving_of(queues));
                         self.finished = Some(Finished { entry, reply });

@@ -17,7 +17,8 @@ use Rattle.vub_queue.specs.declared.took.Took.TheVariants as took
 use Rattle.vub_queue.specs.declared.putting.PutFault.{PutFault}
 use Rattle.vub_queue.specs.declared.putting.PutFault.TheVariants as put_fault
 use Rattle.vub_model.specs.declared.ring_op.RingOp.TheVariants as op
-use Rattle.vub_model.specs.RingRecord.{Vring, ring_after, is_on, has_addresses}
+use Rattle.vub_model.specs.RingRecord.{Vring, ring_after, is_on, has_addresses, is_in_flight}
+use Rattle.vub_model.specs.Control.{used_index_covers, next_used_at}
 use Rattle.vub_model.specs.EntryNumber.{next_number}
 use Rattle.vub_model.specs.Shared.{with_number, without_number}
 use Rattle.vub_model.specs.Work.{may_take, is_object}
@@ -65,18 +66,30 @@ marks_found rs r took.None = if may_take r then marks_taken rs r.queue took.None
 marks_found rs r (took.Damaged d) = []
 
 abbrev pub table_marks : List Region → Vring → TableRingSaid → List Mark
-table_marks rs r (table_said.Taken epoch number c) = []
 table_marks rs r table_said.Nothing = marks_found rs r took.None
-table_marks rs r (table_said.Damaged d) = []
+table_marks rs r said = []
 
 abbrev pub TakePlays : TableRingSaid → Vring → Guest → Vring → Guest → Type 0
 TakePlays (table_said.Taken epoch number c) r g ring guest =
     (found g r ≡ took.Entry c) × (epoch ≡ r.epoch) × (number ≡ next_number r) × (ring ≡ ring_after r op.Taken) × (guest ≡ g)
 TakePlays table_said.Nothing r g ring guest = (found g r ≡ took.None) × (ring ≡ r) × (guest ≡ guest_none g r)
 TakePlays (table_said.Damaged d) r g ring guest = (found g r ≡ took.Damaged d) × (ring ≡ r) × (guest ≡ g)
+TakePlays said r g ring guest = ⊥
+
+-- Info
+
+-- an entry in flight lets it wait; else it says whether the used index can be read
+abbrev pub info_said : Vring → Guest → ℕ → TableRingSaid
+info_said r g used =
+    if is_in_flight r.flight then table_said.Waits else (if used_index_covers g used then table_said.Done else table_said.Outside)
+
+abbrev pub info_after : Vring → Guest → ℕ → ℕ → ℕ → Vring
+info_after r g desc avail used = ring_after r (op.SetInfo desc avail used (next_used_at g used))
 
 abbrev pub TablePlays : TableRing → TableRingSaid → Vring → Guest → Vring → Guest → Type 0
 TablePlays table_ring.Take s r g ring guest = TakePlays s r g ring guest
+TablePlays (table_ring.Info desc avail used) s r g ring guest =
+    (s ≡ info_said r g used) × (ring ≡ info_after r g desc avail used) × (guest ≡ g)
 
 -- told or not, an entry that is taken has the room of its segments
 abbrev pub HasRoom : TableRingSaid → Type 0

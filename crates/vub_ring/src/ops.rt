@@ -5,6 +5,9 @@ use vub_queue::{Chain, Damage, PutFault};
 /// A step of one ring together with guest memory.
 #[derive(Clone, Copy, Debug, PartialEq, Eq)]
 pub enum TableRing {
+    /// Sets the guest addresses of the ring's three areas, and the next used index, which is the word that stands in guest
+    /// memory at the used ring, if it is there.
+    Info { desc: u64, avail: u64, used: u64 },
     /// Takes the next entry.
     Take,
 }
@@ -12,6 +15,12 @@ pub enum TableRing {
 /// What `ring_table` says.
 #[derive(Debug, Drop)]
 pub enum TableRingSaid {
+    /// The addresses and the next used index are set.
+    Done,
+    /// An entry is in flight, and the change has to wait. Nothing changes.
+    Waits,
+    /// The addresses are set. The used index is outside guest memory, and the next used index stays as it was.
+    Outside,
     /// An entry was taken: how many bases the ring was given before, the entry's number, and its chain.
     Taken {
         epoch: u64,

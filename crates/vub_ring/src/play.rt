@@ -1,13 +1,14 @@
 //! The steps of the machine on lent parts, for any ring that ops change, any log of dirty pages and any host.
-ghost use Rattle.std.specs.Prelude.{◌≡◌, ◌≤◌, ◌<◌, IsSome, Ok, Err, IfOk, OnOk, OnErr, IsErrOf, IsOk, IsTrue, length, sum_by};
+ghost use Rattle.std.specs.Prelude.{◌≡◌, ◌≤◌, ◌<◌, IsSome, Ok, Err, IfOk, OnOk, OnErr, IsErrOf, IsOk, IsTrue, length, sum_by, if◌then◌else◌, is_some};
 ghost use Rattle.vub_base.specs.Told.{Told};
 ghost use Rattle.vub_mem.specs.Marks.{MarksAll, page_marks};
 ghost use Rattle.vub_queue.specs.Function.{took_of};
 ghost use Rattle.vub_queue.specs.Take as take_specs;
 ghost use Rattle.vub_queue.specs.Put.{put_guest, put_marks};
+ghost use Rattle.vub_model.specs.Control.{used_index_covers, next_used_at};
 ghost use Rattle.vub_model.specs.RingRecord.{ring_said, ring_after};
 ghost use Rattle.vub_ring.specs.Faults.{CountsFaults};
-ghost use Rattle.vub_ring.specs.Play.{found, guest_found, marks_found, table_marks, use_marks, HasRoom, OnTable, TablePlays, TakePlays, kick_said, KickTable, put_found, PutPlays, table_put, table_called, table_wanted, CallsIf, PutTable, PendPlays, inserts};
+ghost use Rattle.vub_ring.specs.Play.{found, guest_found, marks_found, table_marks, use_marks, info_said, info_after, HasRoom, OnTable, TablePlays, TakePlays, kick_said, KickTable, put_found, PutPlays, table_put, table_called, table_wanted, CallsIf, PutTable, PendPlays, inserts};
 
 use crate::events::{raise_anyway, read_anyway};
 use crate::ops::{KickSaid, PartsError, PendOp, PendSaid, PutSaid, TableRing, TableRingSaid};
@@ -142,7 +143,58 @@ fn play_take<R: RingState, L: DirtyLog>(
     }
 }
 
-/// A step of a ring together with guest memory. A Take gives the next entry of a ring that is ready and enabled, has its
+/// The word at the index of this used ring, if it is in guest memory.
+fn next_used_at<L: DirtyLog>(memory: &GuestMemory<L>, used: u64) -> Option<u16>
+    ensures word { result ≡ next_used_at memory.now.guest used }
+    ensures there { is_some result ≡ used_index_covers memory.now.guest used }
+{
+    match memory.locate(used, 2, 2) {
+        None => None,
+        Some(word) => Some(memory.u16_at(word)),
+    }
+}
+
+/// Whether the used index could be read.
+fn info_said(is_there: bool) -> TableRingSaid
+    ensures { result ≡ (if is_there then TableRingSaid.Done else TableRingSaid.Outside) }
+{
+    if is_there {
+        TableRingSaid::Done
+    } else {
+        TableRingSaid::Outside
+    }
+}
+
+/// Sets the addresses of a ring, and the next used index that stands there.
+fn play_info<R: RingState, L: DirtyLog>(
+    alloc: Global,
+    ring: &mut R,
+    memory: &GuestMemory<L>,
+    desc: u64,
+    avail: u64,
+    used: u64,
+) -> Result<TableRingSaid, PartsError>
+    ensures said { IfOk result (λ said. said ≡ info_said (R.ring ring.old) memory.now.guest used) }
+    ensures ring { OnOk result (R.ring ring.new ≡ info_after (R.ring ring.old) memory.now.guest desc avail used) }
+    ensures err { OnErr result (R.ring ring.new ≡ R.ring ring.old) }
+    ensures only { ¬ (IsErrOf result PartsError.Fault) }
+{
+    let next_used = next_used_at(memory, used);
+    let op = RingOp::SetInfo {
+        desc,
+        avail,
+        used,
+        next_used,
+    };
+    match play_ring(alloc, ring, op)? {
+        RingSaid::Waits => Ok(TableRingSaid::Waits),
+        _ => Ok(info_said(next_used.is_some())),
+    }
+}
+
+/// A step of a ring together with guest memory. An Info sets the addresses, and the next used index that stands in memory
+/// at the used ring; it says Outside where that is not there, and where an entry is in flight it says Waits and changes
+/// nothing. Addresses that are misaligned are not set. A Take gives the next entry of a ring that is ready and enabled, has its
 /// addresses and no entry in flight, and from which fewer than 2^63 were taken since its base; else it says Nothing and
 /// changes nothing.
 ///
@@ -162,6 +214,9 @@ pub fn play_table<R: RingState, L: DirtyLog>(
     ensures only { ¬ (IsErrOf result PartsError.Fault) }
 {
     match op {
+        TableRing::Info { desc, avail, used } => {
+            play_info(alloc, ring, memory, desc, avail, used)
+        }
         TableRing::Take => match play_take(alloc, ring, memory) {
             Ok(said) => Ok(said),
             Err(_) => Err(PartsError::OutOfMemory),

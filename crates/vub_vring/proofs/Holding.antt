@@ -27,14 +27,16 @@ use Rattle.vub_ring.specs.declared.ops.PendOp.{PendOp}
 use Rattle.vub_ring.specs.declared.ops.PendOp.TheVariants as pend
 use Rattle.vub_ring.specs.declared.ops.PendSaid.{PendSaid}
 use Rattle.vub_ring.specs.declared.ops.PendSaid.TheVariants as pend_said
+use Rattle.vub_model.specs.declared.small.TableOp.{TableOp}
+use Rattle.vub_vring.specs.declared.ops.TableSaid.{TableSaid}
 use Rattle.vub_vring.specs.declared.ops.HostOp.{HostOp}
 use Rattle.vub_vring.specs.declared.ops.HostSaid.{HostSaid}
 use Rattle.vub_ring.specs.declared.ops.PartsError.{PartsError}
 use Rattle.vub_ring.specs.declared.ops.PartsError.TheVariants.{Fault}
-use Rattle.vub_vring.specs.Calls.{Called, RingCall, TableRingCall, TakeCall, KickCall, PutCall, PutUncalled, PendCall, HostCall, HostTableCall}
+use Rattle.vub_vring.specs.Calls.{Called, RingCall, TableRingCall, InfoCall, TakeCall, ChangesTable, TableCall, KickCall, PutCall, PutUncalled, PendCall, HostCall, HostTableCall}
 use Rattle.vub_ring.specs.Faults.{CountsFaults}
-use Rattle.vub_ring.specs.Play.{OnTable, found, guest_none, kick_said, KickTable, put_found, table_wanted, table_put, PutTable, CallsIf}
-use Rattle.vub_vring.specs.Store.{ring_in, TakesAt, PutsAt, PendsAt}
+use Rattle.vub_ring.specs.Play.{OnTable, info_after, found, guest_none, kick_said, KickTable, put_found, table_wanted, table_put, PutTable, CallsIf}
+use Rattle.vub_vring.specs.Store.{ring_in, RingTableAt, PutsAt, PendsAt}
 
 -- a call that never faults, on parts whose count stays
 pub quiet_counts : {T : Type 0} (count : ℕ) (Sound : Type 0) (result : Result T PartsError) → (IsErrOf result Fault → ⊥) → CountsFaults count count Sound Sound result
@@ -64,17 +66,33 @@ none-is h queue = none-at (may_take (ring_at h queue)) h (guest_taken h.guest (r
 both : {V : Type 0} (h : Shared V) (rings others : List Vring) (guest other : Guest) → rings ≡ others → guest ≡ other → record h { rings = rings; guest = guest } ≡ record h { rings = others; guest = other }
 both h rings others guest other e f = ap (λ x. record h { rings = x; guest = guest }) e ∙ ap (λ y. record h { rings = others; guest = y }) f
 
-take-shared : {V : Type 0} (h : Shared V) (after : List Vring) (guest : Guest) (queue : ℕ) (said : TableRingSaid) → TakesAt queue said h.rings h.guest after guest → TakeCall queue said h (record h { rings = after; guest = guest })
+take-shared : {V : Type 0} (h : Shared V) (after : List Vring) (guest : Guest) (queue : ℕ) (said : TableRingSaid) → RingTableAt queue table_ring.Take said h.rings h.guest after guest → TakeCall queue said h (record h { rings = after; guest = guest })
 take-shared h after guest queue (table_said.Taken epoch number c) plays =
     (sym (looked-is h queue) ∙ plays.1.0, plays.1.1, plays.1.2, both h after (slice_set h.rings queue (ring_after (ring_in h.rings queue) op.Taken)) guest h.guest (plays.2 ∙ ap (λ r. slice_set h.rings queue r) plays.1.3) plays.1.4)
 take-shared h after guest queue table_said.Nothing plays =
     (sym (looked-is h queue) ∙ plays.1.0, both h after h.rings guest (guest_none h.guest (ring_in h.rings queue)) (plays.2 ∙ (ap (λ r. slice_set h.rings queue r) plays.1.1 ∙ set-get_or h.rings queue closed_ring)) plays.1.2 ∙ none-is h queue)
 take-shared h after guest queue (table_said.Damaged d) plays =
     (sym (looked-is h queue) ∙ plays.1.0, both h after h.rings guest h.guest (plays.2 ∙ (ap (λ r. slice_set h.rings queue r) plays.1.1 ∙ set-get_or h.rings queue closed_ring)) plays.1.2)
+take-shared h after guest queue table_said.Done plays = absurd plays.1
+take-shared h after guest queue table_said.Waits plays = absurd plays.1
+take-shared h after guest queue table_said.Outside plays = absurd plays.1
 
-pub take_row : {V : Type 0} (h : Shared V) (after : List Vring) (guest : Guest) (queue : ℕ) (o : TableRing) (result : Result TableRingSaid PartsError) → IfOk result (λ said. TakesAt queue said h.rings h.guest after guest) → OnErr result (after ≡ h.rings) → OnErr result (guest ≡ h.guest) → Called result (Some h) (Some (record h { rings = after; guest = guest })) (TableRingCall queue o)
-take_row h after guest queue table_ring.Take (Ok said) plays rings memory = take-shared h after guest queue said plays
-take_row h after guest queue o (Err e) plays rings memory = ap (λ shared. Some shared) (both h after h.rings guest h.guest rings memory)
+-- Info
+
+info-shared : {V : Type 0} (h : Shared V) (after : List Vring) (guest : Guest) (queue desc avail used : ℕ) (said : TableRingSaid) → RingTableAt queue (table_ring.Info desc avail used) said h.rings h.guest after guest → InfoCall queue desc avail used said h (record h { rings = after; guest = guest })
+info-shared h after guest queue desc avail used said plays =
+    (plays.1.0, both h after (slice_set h.rings queue (info_after (ring_in h.rings queue) h.guest desc avail used)) guest h.guest (plays.2 ∙ ap (λ r. slice_set h.rings queue r) plays.1.1) plays.1.2)
+
+pub table_ring_row : {V : Type 0} (h : Shared V) (after : List Vring) (guest : Guest) (queue : ℕ) (o : TableRing) (result : Result TableRingSaid PartsError) → IfOk result (λ said. RingTableAt queue o said h.rings h.guest after guest) → OnErr result (after ≡ h.rings) → OnErr result (guest ≡ h.guest) → Called result (Some h) (Some (record h { rings = after; guest = guest })) (TableRingCall queue o)
+table_ring_row h after guest queue table_ring.Take (Ok said) plays rings memory = take-shared h after guest queue said plays
+table_ring_row h after guest queue (table_ring.Info desc avail used) (Ok said) plays rings memory = info-shared h after guest queue desc avail used said plays
+table_ring_row h after guest queue o (Err e) plays rings memory = ap (λ shared. Some shared) (both h after h.rings guest h.guest rings memory)
+
+-- Table
+
+pub table_row : {V : Type 0} (h : Shared V) (guest : Guest) (o : TableOp) (result : Result TableSaid PartsError) → IfOk result (λ said. ChangesTable o said h.guest guest) → OnErr result (guest ≡ h.guest) → Called result (Some h) (Some (record h { guest = guest })) (TableCall o)
+table_row h guest o (Ok said) changes same = (changes, refl)
+table_row h guest o (Err e) changes same = ap (λ g. Some (record h { guest = g })) same
 
 -- Kick
 

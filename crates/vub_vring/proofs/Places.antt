@@ -1,19 +1,24 @@
 -- The ring of a queue and the pending set of a worker: one that is there, and one that is not.
-use Rattle.std.proofs.Common.{◌≡◌, ℕ, suc, zero, ◌<◌, List, [], ◌∷◌, length, slice_index_or, slice_set, Err, refl, sym, ap, subst, ◌∙◌, arith}
+use Rattle.std.proofs.Common.{◌≡◌, ℕ, suc, zero, ◌+◌, ◌<◌, Bool, true, false, if◌then◌else◌, List, [], ◌∷◌, length, slice_index_or, slice_set, Err, refl, sym, ap, subst, ◌∙◌, arith}
 use Rattle.vub_mem.specs.Memory.{Guest}
+use Rattle.vub_mem.specs.Place.{covers}
+use Rattle.vub_mem.specs.Found.{IsLocated}
+use Rattle.vub_model.specs.Control.{used_index_covers}
 use Rattle.vub_queue.specs.declared.chain.Chain.{Chain}
 use Rattle.vub_queue.specs.declared.took.Took.TheVariants as took
 use Rattle.vub_queue.specs.declared.putting.PutFault.TheVariants as put_fault
 use Rattle.vub_model.specs.declared.ring_op.RingOp.TheVariants as op
 use Rattle.vub_model.specs.RingRecord.{Vring, closed_ring, ring_after}
+use Rattle.vub_ring.specs.declared.ops.TableRing.{TableRing}
+use Rattle.vub_ring.specs.declared.ops.TableRing.TheVariants as table_ring
 use Rattle.vub_ring.specs.declared.ops.TableRingSaid.{TableRingSaid}
 use Rattle.vub_ring.specs.declared.ops.TableRingSaid.TheVariants as table_said
 use Rattle.vub_ring.specs.declared.ops.PutSaid.{PutSaid}
 use Rattle.vub_ring.specs.declared.ops.PutSaid.TheVariants as put_said
 use Rattle.vub_ring.specs.declared.ops.PendOp.{PendOp}
 use Rattle.vub_ring.specs.declared.ops.PendSaid.{PendSaid}
-use Rattle.vub_ring.specs.Play.{found, guest_none, put_found, TakePlays, PutPlays, PendPlays}
-use Rattle.vub_vring.specs.Store.{ring_in, left_by, TakesAt, PutsAt, PendsAt}
+use Rattle.vub_ring.specs.Play.{found, guest_none, put_found, info_after, TablePlays, PutPlays, PendPlays}
+use Rattle.vub_vring.specs.Store.{ring_in, left_by, RingTableAt, ClosedPlays, PutsAt, PendsAt}
 
 -- what is there does not hang on what stands for what is not
 there : {A : Type 0} (xs : List A) (i : ℕ) (d e : A) → i < length xs → slice_index_or xs i d ≡ slice_index_or xs i e
@@ -44,19 +49,32 @@ set_same [] i x below is = absurd (omega arith)
 set_same (y ∷ ys) zero x below is = ap (λ z. z ∷ ys) is
 set_same (y ∷ ys) (suc i) x below is = ap (λ zs. y ∷ zs) (set_same ys i x (omega arith) is)
 
--- a take from a ring that is there, with what is written back
-pub take_there : (rings after : List Vring) (queue : ℕ) (said : TableRingSaid) (old ring : Vring) (g guest : Guest) → queue < length rings → old ≡ slice_index_or rings queue old → TakePlays said old g ring guest → after ≡ slice_set rings queue ring → TakesAt queue said rings g after guest
-take_there rings after queue said old ring g guest below is plays set =
-    let P : Vring → Type 0 = λ r. TakePlays said r g ring guest in (ring, subst P (ring_there rings queue old below is) plays, set)
+-- a step of a ring that is there, with what is written back
+pub table_there : (rings after : List Vring) (queue : ℕ) (o : TableRing) (said : TableRingSaid) (old ring : Vring) (g guest : Guest) → queue < length rings → old ≡ slice_index_or rings queue old → TablePlays o said old g ring guest → after ≡ slice_set rings queue ring → RingTableAt queue o said rings g after guest
+table_there rings after queue o said old ring g guest below is plays set =
+    let P : Vring → Type 0 = λ r. TablePlays o said r g ring guest in (ring, subst P (ring_there rings queue old below is) plays, set)
 
 closed-finds : (g : Guest) → (found g closed_ring ≡ took.None) × (g ≡ guest_none g closed_ring)
 unfolding found guest_none
 closed-finds g = (refl, refl)
 
-pub take_missing : (rings : List Vring) (queue : ℕ) (g : Guest) → (queue < length rings → ⊥) → TakesAt queue table_said.Nothing rings g rings g
-take_missing rings queue g apart =
-    let P : Vring → Type 0 = λ r. TakePlays table_said.Nothing r g closed_ring g in
-    (closed_ring, subst P (ring_missing rings queue apart) (let c = closed-finds g in (c.0, refl, c.1)), sym (set_missing rings queue closed_ring apart))
+pub closed_take : (g : Guest) → ClosedPlays table_ring.Take table_said.Nothing g
+closed_take g = let c = closed-finds g in (closed_ring, (c.0, refl, c.1))
+
+closed-info : (g : Guest) (desc avail used : ℕ) (there : Bool) → used_index_covers g used ≡ there → ClosedPlays (table_ring.Info desc avail used) (if there then table_said.Done else table_said.Outside) g
+closed-info g desc avail used there is =
+    (info_after closed_ring g desc avail used, (ap (λ b. if b then table_said.Done else table_said.Outside) (sym is), refl, refl))
+
+pub closed_outside : (g : Guest) (desc avail used : ℕ) → covers g.regions (used + 2) 2 ≡ false → ClosedPlays (table_ring.Info desc avail used) table_said.Outside g
+closed_outside g desc avail used is = closed-info g desc avail used false is
+
+pub closed_done : (g : Guest) (desc avail used word : ℕ) → IsLocated g.regions used 2 2 word → ClosedPlays (table_ring.Info desc avail used) table_said.Done g
+closed_done g desc avail used word at = closed-info g desc avail used true (ap (λ a. covers g.regions a 2) (sym at.is) ∙ at.covered)
+
+pub table_missing : (rings : List Vring) (queue : ℕ) (o : TableRing) (said : TableRingSaid) (g : Guest) → (queue < length rings → ⊥) → ClosedPlays o said g → RingTableAt queue o said rings g rings g
+table_missing rings queue o said g apart plays =
+    let P : Vring → Type 0 = λ r. TablePlays o said r g plays.0 g in
+    (plays.0, subst P (ring_missing rings queue apart) plays.1, sym (set_missing rings queue plays.0 apart))
 
 pub put_there : (rings after : List Vring) (queue : ℕ) (c : Chain) (reply : List ℕ) (said : PutSaid) (old ring : Vring) (g guest : Guest) → queue < length rings → old ≡ slice_index_or rings queue old → PutPlays c reply said old g ring guest → after ≡ slice_set rings queue ring → PutsAt queue c reply said rings g after guest
 put_there rings after queue c reply said old ring g guest below is plays set =

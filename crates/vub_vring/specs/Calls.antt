@@ -1,8 +1,10 @@
 -- What each call of `Parts` says and leaves, as a relation of what is held before and after. Each is one row of the
 -- machine's steps, or a small step of one of its parts.
-use Rattle.std.specs.Prelude.{◌≡◌, ◌⊎◌, ℕ, Bool, true, false, List, Option, Result, Ok, Err}
+use Rattle.std.specs.Prelude.{◌≡◌, ◌⊎◌, ℕ, Bool, true, false, List, Option, Some, None, Result, Ok, Err}
 use Rattle.vub_base.specs.Causes.{Rose}
 use Rattle.vub_base.specs.Told.{Told}
+use Rattle.vub_mem.specs.Memory.{Guest}
+use Rattle.vub_mem.specs.declared.errors.MemError.TheVariants as mem_error
 use Rattle.vub_event.specs.HostTable.{HostTable}
 use Rattle.vub_event.specs.HostCalls.{CreateEventCall, CreateListCall, SignalCall, ConsumeCall, AddCall, DeleteCall, ListenCall, UnlistenCall, ConsumeAsCall, FirstReadyCall, ClaimCall, release_after, member_for}
 use Rattle.vub_event.specs.declared.error.HostError.TheVariants as host_error
@@ -13,6 +15,9 @@ use Rattle.vub_model.specs.declared.ring_op.RingOp.TheVariants as op
 use Rattle.vub_model.specs.declared.ring_op.RingSaid.{RingSaid}
 use Rattle.vub_model.specs.RingRecord.{ring_said, ring_after, is_on}
 use Rattle.vub_model.specs.EntryNumber.{next_number}
+use Rattle.vub_model.specs.declared.small.TableOp.{TableOp}
+use Rattle.vub_model.specs.Control.{table_refusal}
+use Rattle.vub_model.specs.Plans.{regions_after}
 use Rattle.vub_model.specs.Shared.{Shared, ring_at, with_ring, counter_read, inserted, removed, swept, pending_at}
 use Rattle.vub_proto.specs.declared.device_op.DeviceOp.{DeviceOp}
 use Rattle.vub_proto.specs.declared.device_op.DeviceOp.TheVariants as device
@@ -21,6 +26,7 @@ use Rattle.vub_proto.specs.declared.device_said.DeviceSaid.TheVariants as outcom
 use Rattle.vub_model.specs.DeviceCalls.{Telling}
 use Rattle.vub_model.specs.Service.{Meaning}
 use Rattle.vub_model.specs.Work.{is_object, looked, after_none, put_said, used, called}
+use Rattle.vub_ring.specs.Play.{info_said, info_after}
 use Rattle.vub_ring.specs.declared.ops.TableRing.{TableRing}
 use Rattle.vub_ring.specs.declared.ops.TableRing.TheVariants as table_ring
 use Rattle.vub_ring.specs.declared.ops.TableRingSaid.{TableRingSaid}
@@ -37,6 +43,8 @@ use Rattle.vub_vring.specs.declared.ops.HostOp.{HostOp}
 use Rattle.vub_vring.specs.declared.ops.HostOp.TheVariants as host
 use Rattle.vub_vring.specs.declared.ops.HostSaid.{HostSaid}
 use Rattle.vub_vring.specs.declared.ops.HostSaid.TheVariants as said
+use Rattle.vub_vring.specs.declared.ops.TableSaid.{TableSaid}
+use Rattle.vub_vring.specs.declared.ops.TableSaid.TheVariants as change
 use Rattle.vub_ring.specs.declared.ops.PartsError.{PartsError}
 
 -- A call that was made says and leaves what the relation says, where what is held is told. One that was not made changes
@@ -49,15 +57,22 @@ Called (Err e) old new R = new ≡ old
 abbrev pub RingCall : {V : Type 0} → ℕ → RingOp → RingSaid → Shared V → Shared V → Type 0
 RingCall queue o s old new = (s ≡ ring_said (ring_at old queue) o) × (new ≡ with_ring old queue (ring_after (ring_at old queue) o))
 
+-- `ring_table`, an Info: the ring gets these addresses, and the next used index that stands there
+abbrev pub InfoCall : {V : Type 0} → ℕ → ℕ → ℕ → ℕ → TableRingSaid → Shared V → Shared V → Type 0
+InfoCall queue desc avail used s old new =
+    (s ≡ info_said (ring_at old queue) old.guest used) × (new ≡ with_ring old queue (info_after (ring_at old queue) old.guest desc avail used))
+
 -- `ring_table`, a Take: what the ring gives
 abbrev pub TakeCall : {V : Type 0} → ℕ → TableRingSaid → Shared V → Shared V → Type 0
 TakeCall queue (table_said.Taken epoch number c) old new =
     (looked old queue ≡ took.Entry c) × (epoch ≡ (ring_at old queue).epoch) × (number ≡ next_number (ring_at old queue)) × (new ≡ with_ring old queue (ring_after (ring_at old queue) op.Taken))
 TakeCall queue table_said.Nothing old new = (looked old queue ≡ took.None) × (new ≡ after_none old queue)
 TakeCall queue (table_said.Damaged d) old new = (looked old queue ≡ took.Damaged d) × (new ≡ old)
+TakeCall queue s old new = ⊥
 
 abbrev pub TableRingCall : {V : Type 0} → ℕ → TableRing → TableRingSaid → Shared V → Shared V → Type 0
 TableRingCall queue table_ring.Take s old new = TakeCall queue s old new
+TableRingCall queue (table_ring.Info desc avail used) s old new = InfoCall queue desc avail used s old new
 
 -- `ring_host`: the counter of the ring's kick is read
 abbrev pub KickCall : {V : Type 0} → ℕ → ℕ → KickSaid → Shared V → Shared V → Type 0
@@ -137,6 +152,20 @@ IsSaid s = Unit {0}
 
 abbrev pub HostCall : {V : Type 0} → HostOp → HostSaid → Shared V → Shared V → Type 0
 HostCall o s old new = HostTableCall o s old.table new.table × (new ≡ record old { table = new.table })
+
+-- `table`: the table of guest memory is changed, and its regions are said; or memory refuses the change
+abbrev pub ChangesTable : TableOp → TableSaid → Guest → Guest → Type 0
+ChangesTable o (change.Regions regions) old new =
+    (table_refusal old o ≡ None) × (regions ≡ regions_after old.regions o) × (new ≡ record old { regions = regions_after old.regions o })
+ChangesTable o (change.Memory e) old new = (table_refusal old o ≡ Some e) × (new ≡ old)
+
+abbrev pub TableCall : {V : Type 0} → TableOp → TableSaid → Shared V → Shared V → Type 0
+TableCall o s old new = ChangesTable o s old.guest new.guest × (new ≡ record old { guest = new.guest })
+
+-- want of memory is not said as a refusal of guest memory
+abbrev pub IsTableSaid : TableSaid → Type 0
+IsTableSaid (change.Memory mem_error.OutOfMemory) = ⊥
+IsTableSaid s = Unit {0}
 
 -- `device`: the device says what it means to say at this call, and leaves the value that it means to leave
 abbrev pub DeviceCall : {D : Type 0} → Telling D → DeviceOp → DeviceSaid → D → D → Type 0

@@ -3,8 +3,6 @@ use Rattle.std.specs.Prelude.{◌≡◌, ◌≢◌, ◌≤◌, ℕ, List, Option
 use Rattle.vub_base.specs.Causes.{Rose}
 use Rattle.vub_base.specs.Told.{Told}
 use Rattle.vub_model.specs.declared.constants.Constants.{Constants}
-use Rattle.vub_model.specs.declared.ring_op.RingSaid.{RingSaid}
-use Rattle.vub_model.specs.declared.ring_op.RingSaid.TheVariants.{Waits}
 use Rattle.vub_model.specs.Shared.{Shared}
 use Rattle.vub_ring.specs.Faults.{CountsFaults}
 use Rattle.vub_ring.specs.declared.ops.PartsError.{PartsError}
@@ -43,9 +41,9 @@ IsDeviceCall old new result R = Called result old.device new.device R
 abbrev pub Tells : {V D : Type 0} → PartsState V D → PartsState V D → (Shared V → Shared V → Type 0) → Type 0
 Tells old new R = Told old.shared new.shared R
 
--- a call of parts that tell nothing waits by itself, and does not answer that it has to
-abbrev pub WaitsWhereTold : {V D : Type 0} → PartsState V D → Result RingSaid PartsError → Type 0
-WaitsWhereTold old result = old.shared ≡ None → IfOk result (λ said. said ≢ Waits)
+-- parts that tell nothing wait by themselves, and do not answer that a change has to wait
+abbrev pub WaitsWhereTold : {V D S : Type 0} → PartsState V D → Result S PartsError → S → Type 0
+WaitsWhereTold old result waits = old.shared ≡ None → IfOk result (λ said. said ≢ waits)
 
 -- What every call leaves, but one of the device: a fault comes only where the count of faults rose; the device, what is
 -- lent and the constants stay.

@@ -4,13 +4,14 @@ use Rattle.vub_mem.specs.Memory.{Guest}
 use Rattle.vub_queue.specs.declared.chain.Chain.{Chain}
 use Rattle.vub_model.specs.RingRecord.{Vring, closed_ring}
 use Rattle.vub_model.specs.Shared.{Shared}
+use Rattle.vub_ring.specs.declared.ops.TableRing.{TableRing}
 use Rattle.vub_ring.specs.declared.ops.TableRingSaid.{TableRingSaid}
 use Rattle.vub_ring.specs.declared.ops.PutSaid.{PutSaid}
 use Rattle.vub_ring.specs.declared.ops.PendOp.{PendOp}
 use Rattle.vub_ring.specs.declared.ops.PendOp.TheVariants as pend
 use Rattle.vub_ring.specs.declared.ops.PendSaid.{PendSaid}
 use Rattle.vub_vring.specs.declared.store.Store.{Store}
-use Rattle.vub_ring.specs.Play.{TakePlays, PutPlays, PendPlays}
+use Rattle.vub_ring.specs.Play.{TablePlays, PutPlays, PendPlays}
 
 abbrev pub shared_of : {L V : Type 0} → Store L → V → Shared V
 shared_of s v = record { guest = s.memory.guest; rings = s.rings.items; table = s.host.table; pending = s.pending.items; service = v }
@@ -23,10 +24,14 @@ ring_in rings queue = slice_index_or rings queue closed_ring
 abbrev pub pending_in : List (List ℕ) → ℕ → List ℕ
 pending_in sets worker = slice_index_or sets worker []
 
--- a take from the ring of a queue
-abbrev pub TakesAt : ℕ → TableRingSaid → List Vring → Guest → List Vring → Guest → Type 0
-TakesAt queue said rings g after guest =
-    (ring : Vring) × TakePlays said (ring_in rings queue) g ring guest × (after ≡ slice_set rings queue ring)
+-- a step of the ring of a queue together with guest memory
+abbrev pub RingTableAt : ℕ → TableRing → TableRingSaid → List Vring → Guest → List Vring → Guest → Type 0
+RingTableAt queue o said rings g after guest =
+    (ring : Vring) × TablePlays o said (ring_in rings queue) g ring guest × (after ≡ slice_set rings queue ring)
+
+-- the same of a ring that is not there
+abbrev pub ClosedPlays : TableRing → TableRingSaid → Guest → Type 0
+ClosedPlays o said g = (ring : Vring) × TablePlays o said closed_ring g ring g
 
 -- a use of an entry of a queue
 abbrev pub PutsAt : ℕ → Chain → List ℕ → PutSaid → List Vring → Guest → List Vring → Guest → Type 0

@@ -3,6 +3,7 @@
 
 mod acting;
 mod asking;
+mod changing;
 mod hosting;
 mod opening;
 mod ops;
@@ -11,12 +12,13 @@ mod parts;
 mod store;
 
 pub use asking::play_device;
+pub use changing::play_memory;
 pub use hosting::play_host;
 pub use opening::open_worker;
-pub use ops::{HostOp, HostSaid};
+pub use ops::{HostOp, HostSaid, TableSaid};
 pub use owned::OwnedParts;
 pub use parts::Parts;
-pub use store::Store;
+pub use store::{Store, closed_said, closed_table_said, copy_constants, missing_said};
 pub use vub_ring::{
     KickSaid, PartsError, PendOp, PendSaid, Pending, PutSaid, RingState, TableRing, TableRingSaid,
     VringState, play_kick, play_pend, play_put, play_ring, play_table,

@@ -1,5 +1,7 @@
-//! What the call of the host is asked, and what it says.
+//! What the call of the host is asked, and what the calls of host and memory say.
+use vub_base::Listed;
 use vub_event::{EventSet, HostError, Ready};
+use vub_mem::{MemError, Region};
 
 /// A call of the host, with the arguments of the call of its name.
 #[derive(Clone, Copy, Debug, PartialEq, Eq)]
@@ -32,4 +34,13 @@ pub enum HostSaid {
     Ready(Option<Ready>),
     /// The host refused the call, and nothing changed. Neither a fault nor want of memory stands here.
     Refused(HostError),
+}
+
+/// What `table` says.
+#[derive(Debug, Drop)]
+pub enum TableSaid {
+    /// All regions of guest memory, after the change.
+    Regions(Listed<Region>),
+    /// Guest memory refused the change, and nothing changed. Want of memory does not stand here.
+    Memory(MemError),
 }

@@ -2,14 +2,15 @@ ghost use Rattle.std.specs.Prelude.{◌≡◌, [], ◌∷◌, Some};
 ghost use Rattle.vub_vring.specs.Store.{shared_of};
 
 use crate::asking::play_device;
-use crate::ops::{HostOp, HostSaid};
+use crate::changing::play_memory;
+use crate::ops::{HostOp, HostSaid, TableSaid};
 use crate::parts::Parts;
-use crate::store::{Store, copy_constants, host_at, kick_at, pend_at, put_at, ring_at, take_at};
+use crate::store::{Store, copy_constants, host_at, kick_at, pend_at, put_at, ring_at, table_at};
 use std::alloc::Global;
 use vub_base::{Bytes, OutOfMemory};
 use vub_event::Host;
 use vub_mem::DirtyLog;
-use vub_model::{Constants, Entry, RingOp, RingSaid};
+use vub_model::{Constants, Entry, RingOp, RingSaid, TableOp};
 use vub_proto::{DeviceOp, DeviceSaid, Service, VhostUserBackendMut};
 use vub_ring::{KickSaid, PartsError, PendOp, PendSaid, PutSaid, TableRing, TableRingSaid};
 
@@ -50,7 +51,7 @@ impl<'a, L: DirtyLog, D: VhostUserBackendMut, V: Service> Parts for OwnedParts<'
         ring_at(alloc, &mut self.store.rings, queue, op)
     }
 
-    #[tactic(auto, using(crate::proofs::Holding::take_row, crate::proofs::Holding::quiet_counts))]
+    #[tactic(auto, using(crate::proofs::Holding::table_ring_row, crate::proofs::Holding::quiet_counts))]
     fn ring_table(
         &mut self,
         alloc: Global,
@@ -58,9 +59,7 @@ impl<'a, L: DirtyLog, D: VhostUserBackendMut, V: Service> Parts for OwnedParts<'
         op: TableRing,
     ) -> Result<TableRingSaid, PartsError> {
         let store = &mut *self.store;
-        match op {
-            TableRing::Take => take_at(alloc, &mut store.rings, &mut store.memory, queue),
-        }
+        table_at(alloc, &mut store.rings, &mut store.memory, queue, op)
     }
 
     #[tactic(auto, using(crate::proofs::Holding::kick_row))]
@@ -92,6 +91,11 @@ impl<'a, L: DirtyLog, D: VhostUserBackendMut, V: Service> Parts for OwnedParts<'
         host_at(alloc, &mut self.store.host, op)
     }
 
+    #[tactic(auto, using(crate::proofs::Holding::table_row, crate::proofs::Holding::quiet_counts))]
+    fn table(&mut self, alloc: Global, op: TableOp) -> Result<TableSaid, PartsError> {
+        play_memory(alloc, &mut self.store.memory, op)
+    }
+
     #[tactic(auto, using(crate::proofs::Holding::pend_row, crate::proofs::Holding::quiet_counts))]
     fn pend(&mut self, alloc: Global, worker: u32, op: PendOp) -> Result<PendSaid, PartsError> {
         pend_at(alloc, &mut self.store.pending, worker, op)
@@ -106,6 +110,8 @@ impl<'a, L: DirtyLog, D: VhostUserBackendMut, V: Service> Parts for OwnedParts<'
             Err(_) => Err(PartsError::OutOfMemory),
         }
     }
+
+    fn wait_ready(&mut self, _list: u32) {}
 
     fn device(&mut self, alloc: Global, op: DeviceOp) -> Result<DeviceSaid, PartsError> {
         play_device(alloc, self.device, op)

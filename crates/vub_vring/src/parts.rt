@@ -3,13 +3,13 @@ ghost use Rattle.std.specs.Option.{ForSome};
 ghost use Rattle.vub_model.specs.Control.{IsOutcome};
 ghost use Rattle.vub_model.specs.Service.{meaning};
 ghost use Rattle.vub_ring.specs.Play.{HasRoom, inserts};
-ghost use Rattle.vub_vring.specs.Calls.{RingCall, TableRingCall, KickCall, PutCall, PutTried, PendCall, ServiceCall, HostCall, IsSaid, takes_memory, DeviceCall, telling, IsCounted, gives_content};
+ghost use Rattle.vub_vring.specs.Calls.{RingCall, TableRingCall, KickCall, PutCall, PutTried, PendCall, ServiceCall, HostCall, IsSaid, takes_memory, TableCall, IsTableSaid, DeviceCall, telling, IsCounted, gives_content};
 ghost use Rattle.vub_vring.specs.PartsState.{PartsState, HasFailed, IsCall, IsDeviceCall, WaitsWhereTold, Keeps, KeepsShared, IsUntouched};
 
-use crate::ops::{HostOp, HostSaid};
+use crate::ops::{HostOp, HostSaid, TableSaid};
 use std::alloc::Global;
 use vub_base::{Bytes, OutOfMemory};
-use vub_model::{Constants, Entry, RingOp, RingSaid};
+use vub_model::{Constants, Entry, RingOp, RingSaid, TableOp};
 use vub_proto::{DeviceOp, DeviceSaid, Service, VhostUserBackendMut};
 use vub_ring::{KickSaid, PartsError, PendOp, PendSaid, PutSaid, TableRing, TableRingSaid};
 
@@ -42,11 +42,12 @@ pub trait Parts {
     /// Want of memory.
     fn ring(&mut self, alloc: Global, queue: u32, op: RingOp) -> Result<RingSaid, PartsError>
         ensures row { IsCall (state self.old) (state self.new) result (RingCall queue op) }
-        ensures waits { WaitsWhereTold (state self.old) result }
+        ensures waits { WaitsWhereTold (state self.old) result RingSaid.Waits }
         ensures only { ¬ (IsErrOf result PartsError.Fault) }
         ensures frame { Keeps (state self.old) (state self.new) result };
 
-    /// Takes the next entry of a ring that is ready and enabled, has its addresses and no entry in flight.
+    /// Sets the addresses of a ring, and the next used index that stands there; or takes the next entry of a ring that is
+    /// ready and enabled, has its addresses and no entry in flight.
     ///
     /// # Errors
     /// Want of memory.
@@ -57,6 +58,7 @@ pub trait Parts {
         op: TableRing,
     ) -> Result<TableRingSaid, PartsError>
         ensures row { IsCall (state self.old) (state self.new) result (TableRingCall queue op) }
+        ensures waits { WaitsWhereTold (state self.old) result TableRingSaid.Waits }
         ensures room { IfOk result HasRoom }
         ensures only { ¬ (IsErrOf result PartsError.Fault) }
         ensures frame { Keeps (state self.old) (state self.new) result };
@@ -95,6 +97,16 @@ pub trait Parts {
         ensures memory { IsErrOf result PartsError.OutOfMemory → IsTrue (takes_memory op) }
         ensures frame { Keeps (state self.old) (state self.new) result };
 
+    /// Changes the table of guest memory.
+    ///
+    /// # Errors
+    /// Want of memory.
+    fn table(&mut self, alloc: Global, op: TableOp) -> Result<TableSaid, PartsError>
+        ensures row { IsCall (state self.old) (state self.new) result (TableCall op) }
+        ensures said { IfOk result IsTableSaid }
+        ensures only { ¬ (IsErrOf result PartsError.Fault) }
+        ensures frame { Keeps (state self.old) (state self.new) result };
+
     /// Changes a worker's pending set.
     ///
     /// # Errors
@@ -115,6 +127,11 @@ pub trait Parts {
         ensures fits { IfOk result (λ reply. length reply ≤ entry.now.chain.room) }
         ensures only { ¬ (IsErrOf result PartsError.Fault) }
         ensures frame { Keeps (state self.old) (state self.new) result };
+
+    /// Waits until a member of this interest list is ready. Parts of one party alone do not wait, since no other makes it
+    /// ready.
+    fn wait_ready(&mut self, list: u32)
+        ensures same { IsUntouched (state self.old) (state self.new) };
 
     /// Makes this call of the device.
     ///

@@ -1,13 +1,13 @@
 //! Parts that tell nothing of what they hold, as those behind locks.
 ghost use Rattle.std.specs.Prelude.{[], None};
 
-use crate::ops::{HostOp, HostSaid};
+use crate::ops::{HostOp, HostSaid, TableSaid};
 use crate::owned::OwnedParts;
 use crate::parts::Parts;
 use std::alloc::Global;
 use vub_base::{Bytes, OutOfMemory};
 use vub_mem::DirtyLog;
-use vub_model::{Constants, Entry, RingOp, RingSaid};
+use vub_model::{Constants, Entry, RingOp, RingSaid, TableOp};
 use vub_proto::{DeviceOp, DeviceSaid, Service, VhostUserBackendMut};
 use vub_ring::{KickSaid, PartsError, PendOp, PendSaid, PutSaid, TableRing, TableRingSaid};
 
@@ -53,7 +53,10 @@ impl<'a, L: DirtyLog, D: VhostUserBackendMut, V: Service> Parts for SilentParts<
         queue: u32,
         op: TableRing,
     ) -> Result<TableRingSaid, PartsError> {
-        self.inner.ring_table(alloc, queue, op)
+        match self.inner.ring_table(alloc, queue, op)? {
+            TableRingSaid::Waits => Ok(TableRingSaid::Done),
+            said => Ok(said),
+        }
     }
 
     fn ring_host(
@@ -73,12 +76,20 @@ impl<'a, L: DirtyLog, D: VhostUserBackendMut, V: Service> Parts for SilentParts<
         self.inner.host(alloc, op)
     }
 
+    fn table(&mut self, alloc: Global, op: TableOp) -> Result<TableSaid, PartsError> {
+        self.inner.table(alloc, op)
+    }
+
     fn pend(&mut self, alloc: Global, worker: u32, op: PendOp) -> Result<PendSaid, PartsError> {
         self.inner.pend(alloc, worker, op)
     }
 
     fn service(&mut self, alloc: Global, entry: &Entry) -> Result<Bytes, PartsError> {
         self.inner.service(alloc, entry)
+    }
+
+    fn wait_ready(&mut self, list: u32) {
+        self.inner.wait_ready(list);
     }
 
     fn device(&mut self, alloc: Global, op: DeviceOp) -> Result<DeviceSaid, PartsError> {

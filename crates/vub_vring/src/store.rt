@@ -5,9 +5,9 @@ ghost use Rattle.vub_model.specs.RingRecord.{closed_ring, ring_said, ring_after}
 ghost use Rattle.vub_ring.specs.Play.{HasRoom};
 ghost use Rattle.vub_vring.specs.Calls.{HostTableCall, IsSaid, takes_memory};
 ghost use Rattle.vub_ring.specs.Faults.{CountsFaults};
-ghost use Rattle.vub_ring.specs.Play.{OnTable, KickTable, kick_said, put_found, table_marks, use_marks, PutTable, table_put, PendPlays, inserts};
+ghost use Rattle.vub_ring.specs.Play.{OnTable, KickTable, kick_said, put_found, use_marks, PutTable, table_put, PendPlays, inserts};
 ghost use Rattle.vub_vring.specs.Hosting.{CountsOver, PlaysOver};
-ghost use Rattle.vub_vring.specs.Store.{ring_in, left_by, TakesAt, PutsAt, PendsAt};
+ghost use Rattle.vub_vring.specs.Store.{ring_in, left_by, RingTableAt, ClosedPlays, PutsAt, PendsAt};
 
 use crate::hosting::{play_host, ready};
 use crate::ops::{HostOp, HostSaid};
@@ -31,8 +31,8 @@ pub struct Store<L: DirtyLog> {
     pub pending: Vec<Pending>,
 }
 
-/// What a ring that is not there says.
-fn closed_said(op: RingOp) -> RingSaid
+/// What a ring that is not there says: Done, or base 0.
+pub fn closed_said(op: RingOp) -> RingSaid
     ensures { result ≡ ring_said closed_ring op }
 {
     match op {
@@ -60,16 +60,31 @@ pub(crate) fn ring_at(
     }
 }
 
-/// Takes the next entry of a queue.
-#[tactic(auto, using(crate::proofs::Places::take_there, crate::proofs::Places::take_missing))]
-pub(crate) fn take_at<L: DirtyLog>(
+/// What a ring that is not there says together with guest memory: a Take finds Nothing, and an Info says whether the used
+/// index could be read.
+pub fn closed_table_said<L: DirtyLog>(memory: &GuestMemory<L>, op: TableRing) -> TableRingSaid
+    ensures row { ClosedPlays op result memory.now.guest }
+    ensures room { HasRoom result }
+{
+    match op {
+        TableRing::Take => TableRingSaid::Nothing,
+        TableRing::Info { used, .. } => match memory.locate(used, 2, 2) {
+            None => TableRingSaid::Outside,
+            Some(_) => TableRingSaid::Done,
+        },
+    }
+}
+
+/// Makes a step of the ring of a queue together with guest memory.
+#[tactic(auto, using(crate::proofs::Places::table_there, crate::proofs::Places::table_missing))]
+pub(crate) fn table_at<L: DirtyLog>(
     alloc: Global,
     rings: &mut Vec<VringState>,
     memory: &mut GuestMemory<L>,
     queue: u32,
+    op: TableRing,
 ) -> Result<TableRingSaid, PartsError>
-    ensures row { IfOk result (λ said. TakesAt queue said rings.old.items memory.old.guest rings.new.items memory.new.guest) }
-    ensures logs { IfOk result (λ said. MarksAll (page_marks L.byte_len L.marks) memory.old.logs (table_marks memory.old.guest.regions (ring_in rings.old.items queue) said) memory.new.logs) }
+    ensures row { IfOk result (λ said. RingTableAt queue op said rings.old.items memory.old.guest rings.new.items memory.new.guest) }
     ensures room { IfOk result HasRoom }
     ensures rings { OnErr result (rings.new.items ≡ rings.old.items) }
     ensures err { OnErr result (memory.new ≡ memory.old) }
@@ -77,8 +92,8 @@ pub(crate) fn take_at<L: DirtyLog>(
     ensures only { ¬ (IsErrOf result PartsError.Fault) }
 {
     match rings.get_mut(queue as usize) {
-        Some(ring) => play_table(alloc, ring, memory, TableRing::Take),
-        None => Ok(TableRingSaid::Nothing),
+        Some(ring) => play_table(alloc, ring, memory, op),
+        None => Ok(closed_table_said(memory, op)),
     }
 }
 
@@ -151,8 +166,8 @@ pub(crate) fn pend_at(
     }
 }
 
-/// What a pending set that is not there says.
-fn missing_said(alloc: Global, op: PendOp) -> PendSaid
+/// What a pending set that is not there says: Done, or no numbers. Takes no memory.
+pub fn missing_said(alloc: Global, op: PendOp) -> PendSaid
     ensures { PendPlays op result [] (left_by op) }
 {
     match op {
@@ -190,7 +205,7 @@ pub(crate) fn host_at(alloc: Global, host: &mut MemHost, op: HostOp) -> Result<H
 ///
 /// # Errors
 /// Want of memory.
-pub(crate) fn copy_constants(alloc: Global, constants: &Constants) -> Result<Constants, OutOfMemory>
+pub fn copy_constants(alloc: Global, constants: &Constants) -> Result<Constants, OutOfMemory>
     ensures { IfOk result (λ c. c ≡ constants.now) }
 {
     let masks = Vec::from_slice(alloc, constants.masks.as_slice())?;

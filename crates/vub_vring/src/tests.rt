@@ -9,7 +9,7 @@ use vub_base::{Bytes, Listed, OutOfMemory};
 use vub_event::{EventSet, Host, HostError, MemHost, Member};
 use vub_mem::{GuestMemory, Region};
 use vub_model::{Constants, Entry, Guest, RingOp, RingSaid, VringEpollError};
-use vub_proto::Service;
+use vub_proto::{DeviceOp, DeviceSaid, FixedDevice, Service};
 use vub_queue::PutFault;
 
 const START: u64 = 0x10000;
@@ -119,6 +119,18 @@ fn constants_of(alloc: Global) -> Result<Constants, Fail> {
     })
 }
 
+fn device_of(alloc: Global) -> FixedDevice {
+    FixedDevice {
+        queues: 1,
+        max: 8,
+        features: 0,
+        protocol: 0,
+        masks: Listed::new(alloc),
+        exits: Listed::new(alloc),
+        refusals: 0,
+    }
+}
+
 /// Takes the next entry of queue 0, asks the service, and uses it with the reply.
 fn serve_one<P: Parts>(alloc: Global, parts: &mut P) -> Result<PutSaid, PartsError> {
     match parts.ring_table(alloc, 0, TableRing::Take)? {
@@ -134,7 +146,7 @@ fn serve_one<P: Parts>(alloc: Global, parts: &mut P) -> Result<PutSaid, PartsErr
                 chain,
             };
             let reply = parts.service(alloc, &entry)?;
-            parts.put(alloc, 0, &entry, reply.as_slice())
+            parts.put(alloc, &entry, reply.as_slice())
         }
         _ => Ok(PutSaid::Held(PutFault::RoomOutside)),
     }
@@ -144,11 +156,13 @@ fn serve_one<P: Parts>(alloc: Global, parts: &mut P) -> Result<PutSaid, PartsErr
 fn owned_parts_serve_an_entry(rt: HostRuntime) -> Result<(), Fail> {
     let alloc = rt.alloc();
     let mut store = store_of(alloc)?;
+    let mut device = device_of(alloc);
     let mut service = Echo { asked: 0 };
     let constants = constants_of(alloc)?;
     {
         let mut parts = OwnedParts {
             store: &mut store,
+            device: &mut device,
             service: &mut service,
             constants: &constants,
         };
@@ -163,12 +177,14 @@ fn owned_parts_serve_an_entry(rt: HostRuntime) -> Result<(), Fail> {
 fn silent_parts_serve_an_entry(rt: HostRuntime) -> Result<(), Fail> {
     let alloc = rt.alloc();
     let mut store = store_of(alloc)?;
+    let mut device = device_of(alloc);
     let mut service = Echo { asked: 0 };
     let constants = constants_of(alloc)?;
     {
         let mut parts = SilentParts {
             inner: OwnedParts {
                 store: &mut store,
+                device: &mut device,
                 service: &mut service,
                 constants: &constants,
             },
@@ -185,10 +201,12 @@ fn silent_parts_serve_an_entry(rt: HostRuntime) -> Result<(), Fail> {
 fn parts_keep_what_is_pending(rt: HostRuntime) -> Result<(), Fail> {
     let alloc = rt.alloc();
     let mut store = store_of(alloc)?;
+    let mut device = device_of(alloc);
     let mut service = Echo { asked: 0 };
     let constants = constants_of(alloc)?;
     let mut parts = OwnedParts {
         store: &mut store,
+        device: &mut device,
         service: &mut service,
         constants: &constants,
     };
@@ -200,6 +218,34 @@ fn parts_keep_what_is_pending(rt: HostRuntime) -> Result<(), Fail> {
         PendSaid::All(numbers) => assert_eq!(rt; numbers.as_slice(), [3, 5].as_slice()),
         PendSaid::Done => assert!(rt; false),
     }
+    Ok(())
+}
+
+#[test]
+fn parts_call_the_device(rt: HostRuntime) -> Result<(), Fail> {
+    let alloc = rt.alloc();
+    let mut store = store_of(alloc)?;
+    let mut device = device_of(alloc);
+    let mut service = Echo { asked: 0 };
+    let constants = constants_of(alloc)?;
+    let mut parts = OwnedParts {
+        store: &mut store,
+        device: &mut device,
+        service: &mut service,
+        constants: &constants,
+    };
+    let heard = parts.device(
+        alloc,
+        DeviceOp::HandleEvent {
+            token: 2,
+            worker: 0,
+        },
+    )?;
+    assert!(rt; matches!(heard, DeviceSaid::Done));
+    assert_eq!(rt; parts.refusals(), 0);
+    let checked = parts.device(alloc, DeviceOp::CheckDeviceState)?;
+    assert!(rt; matches!(checked, DeviceSaid::Refused(95)));
+    assert_eq!(rt; parts.refusals(), 1);
     Ok(())
 }
 
@@ -219,10 +265,12 @@ const CALLS: [(HostOp, HostSaid); 8] = [
 fn parts_call_the_host(rt: HostRuntime) -> Result<(), Fail> {
     let alloc = rt.alloc();
     let mut store = store_of(alloc)?;
+    let mut device = device_of(alloc);
     let mut service = Echo { asked: 0 };
     let constants = constants_of(alloc)?;
     let mut parts = OwnedParts {
         store: &mut store,
+        device: &mut device,
         service: &mut service,
         constants: &constants,
     };
@@ -277,6 +325,7 @@ fn failing_store(alloc: Global, call: u64) -> Result<Store<()>, Fail> {
 
 /// Why worker 0, whose exit object is event 0, can't be opened.
 fn opening_error(alloc: Global, store: &mut Store<()>) -> Result<Option<VringEpollError>, Fail> {
+    let mut device = device_of(alloc);
     let mut service = Echo { asked: 0 };
     let constants = Constants {
         queues: 3,
@@ -288,6 +337,7 @@ fn opening_error(alloc: Global, store: &mut Store<()>) -> Result<Option<VringEpo
     };
     let mut parts = OwnedParts {
         store,
+        device: &mut device,
         service: &mut service,
         constants: &constants,
     };
