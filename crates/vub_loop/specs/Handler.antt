@@ -26,7 +26,10 @@ pub record SameWorker (old new : Worker) : Type 0 where
 
 -- a worker that was opened, before its first step
 abbrev pub new_handler : Constants → Opened → Worker
-new_handler constants opened = record { opened = opened; queues = queues_in constants.queues (slice_index_or constants.masks opened.worker 0); count = constants.queues; phase = Idle; finished = None }
+new_handler constants opened =
+    let mask = slice_index_or constants.masks opened.worker 0 in
+    let queues = queues_in constants.queues mask in
+    record { opened = opened; queues = queues; count = constants.queues; phase = Idle; finished = None }
 
 -- the same where the constants are not told: it is idle, was opened like this, and used nothing
 pub record IsNew (given : Opened) (h : Worker) : Type 0 where

@@ -25,7 +25,8 @@ abbrev pub CallsBy : {V D : Type 0} → Telling D → List Call → PartsState V
 CallsBy t calls old new = Told old.device new.device (λ d e. device_calls.Tells t d calls × (e ≡ moved_by t d calls))
 
 -- the device has handled the event that the worker heard, or refused it, and this is the outcome
-pub record HandledBy {V D : Type 0} (t : Telling D) (said : DeviceSaid) (before now : Worker) (old new : PartsState V D) : Type 0 where
+pub record HandledBy {V D : Type 0} (t : Telling D) (said : DeviceSaid) (before now : Worker)
+    (old new : PartsState V D) : Type 0 where
   pub phase : phase_of now ≡ after_heard said
   pub told : CallsBy t (heard_in before.opened.worker (phase_of before) (play.Hear said)) old new
   pub counted : IsCounted old.refusals new.refusals said
@@ -46,7 +47,8 @@ TurnCounted before now (Played (play.Hear said)) = IsCounted before now said
 TurnCounted before now t = Unit {0}
 
 -- What a turn leaves of the device: it is called by a Hear alone, and want of memory leaves it as it was.
-pub record TurnsDevice {V D : Type 0} (t : Telling D) (before : Worker) (old new : PartsState V D) (result : Result Turned VringEpollError) : Type 0 where
+pub record TurnsDevice {V D : Type 0} (t : Telling D) (before : Worker) (old new : PartsState V D)
+    (result : Result Turned VringEpollError) : Type 0 where
   pub told : IfOk result (λ turned. CallsBy t (calls_in before.opened.worker (phase_of before) turned) old new)
   pub counted : IfOk result (λ turned. TurnCounted old.refusals new.refusals turned)
   pub err : OnErr result (new.device ≡ old.device)

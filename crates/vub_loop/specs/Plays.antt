@@ -11,7 +11,7 @@ use Rattle.vub_model.specs.Work.{MayWork, after_work}
 use Rattle.vub_loop.specs.declared.turned.Turned.{Turned}
 use Rattle.vub_loop.specs.declared.turned.Turned.TheVariants.{Pass, Played, Failed}
 
--- This play was made, from the phase `before` and what was shared, and what is now shared and the phase `now` are its row.
+-- This play was made, from the phase `before` and what was shared: what is now shared and the phase `now` are its row.
 abbrev pub IsStep : {V : Type 0} → Meaning V → Wiring → ℕ → Play → Phase → Phase → Shared V → Shared V → Type 0
 IsStep m g worker l before now old new =
     MayWork g worker old before l × (record { shared = new; phase = now } ≡ after_work m g worker old before l)

@@ -16,9 +16,11 @@ use Rattle.vub_loop.specs.Phases.{HasPolled}
 use Rattle.vub_loop.specs.Plays.{IsStep, Polls}
 
 -- no member may be polled; this member was polled; or the host failed
-abbrev pub PollingSteps : {V : Type 0} → Type 0 → Type 0 → Meaning V → Wiring → ℕ → Polling → Phase → Phase → Shared V → Shared V → Type 0
+abbrev pub PollingSteps : {V : Type 0} → Type 0 → Type 0 → Meaning V → Wiring → ℕ → Polling → Phase → Phase → Shared V
+    → Shared V → Type 0
 PollingSteps Sound Rise m g worker Nothing before now old new = Polls m g worker false before now old new
-PollingSteps Sound Rise m g worker (Member object) before now old new = IsStep m g worker (play.Poll object) before now old new
+PollingSteps Sound Rise m g worker (Member object) before now old new =
+    IsStep m g worker (play.Poll object) before now old new
 PollingSteps Sound Rise m g worker Failed before now old new = (Sound → ⊥) × Rise × PollFaulted before now old new
 
 -- the polled member is the ready one with the least number

@@ -33,34 +33,40 @@ abbrev pub OnPhases : {A : Type 0} → (A → Phase → Phase → Type 0) → Re
 OnPhases R result before now = IfOk result (λ answer. R answer (phase_of before) (phase_of now))
 
 -- the step of this play, or a fault of the host
-abbrev pub StepsBy : {V D : Type 0} → Meaning V → Play → Result Bool VringEpollError → Worker → Worker → PartsState V D → PartsState V D → Type 0
+abbrev pub StepsBy : {V D : Type 0} → Meaning V → Play → Result Bool VringEpollError → Worker → Worker
+    → PartsState V D → PartsState V D → Type 0
 StepsBy m l result before now old new =
     AsWorker before result (λ g worker made.
     Tells old new (Steps old.NeverFails (HasFailed old new) m g worker l made (phase_of before) (phase_of now)))
 
 -- the step of a poll, or a fault of the host
-abbrev pub PollsBy : {V D : Type 0} → Meaning V → Result Bool VringEpollError → Worker → Worker → PartsState V D → PartsState V D → Type 0
+abbrev pub PollsBy : {V D : Type 0} → Meaning V → Result Bool VringEpollError → Worker → Worker → PartsState V D
+    → PartsState V D → Type 0
 PollsBy m result before now old new =
     AsWorker before result (λ g worker made.
     Tells old new (PollSteps old.NeverFails (HasFailed old new) m g worker made (phase_of before) (phase_of now)))
 
-abbrev pub PollingBy : {V D : Type 0} → Meaning V → Result Polling VringEpollError → Worker → Worker → PartsState V D → PartsState V D → Type 0
+abbrev pub PollingBy : {V D : Type 0} → Meaning V → Result Polling VringEpollError → Worker → Worker → PartsState V D
+    → PartsState V D → Type 0
 PollingBy m result before now old new =
     AsWorker before result (λ g worker polled.
     Tells old new (PollingSteps old.NeverFails (HasFailed old new) m g worker polled (phase_of before) (phase_of now)))
 
 -- the step of a Hear
-abbrev pub HearsBy : {V D : Type 0} → Meaning V → Result Bool VringEpollError → Worker → Worker → PartsState V D → PartsState V D → Type 0
+abbrev pub HearsBy : {V D : Type 0} → Meaning V → Result Bool VringEpollError → Worker → Worker → PartsState V D
+    → PartsState V D → Type 0
 HearsBy m result before now old new =
     AsWorker before result (λ g worker made. Tells old new (Hears m g worker made (phase_of before) (phase_of now)))
 
-abbrev pub HearingBy : {V D : Type 0} → Meaning V → Result DeviceSaid VringEpollError → Worker → Worker → PartsState V D → PartsState V D → Type 0
+abbrev pub HearingBy : {V D : Type 0} → Meaning V → Result DeviceSaid VringEpollError → Worker → Worker
+    → PartsState V D → PartsState V D → Type 0
 HearingBy m result before now old new =
     AsWorker before result (λ g worker said.
     Tells old new (IsStep m g worker (play.Hear said) (phase_of before) (phase_of now)))
 
 -- the step of a turn, none, or a fault of the host
-abbrev pub TurnsBy : {V D : Type 0} → Meaning V → Result Turned VringEpollError → Worker → Worker → PartsState V D → PartsState V D → Type 0
+abbrev pub TurnsBy : {V D : Type 0} → Meaning V → Result Turned VringEpollError → Worker → Worker → PartsState V D
+    → PartsState V D → Type 0
 TurnsBy m result before now old new =
     AsWorker before result (λ g worker t.
     Tells old new (TurnSteps old.NeverFails (HasFailed old new) m g worker t (phase_of before) (phase_of now)))
@@ -74,20 +80,24 @@ abbrev pub LeastTurned : {V : Type 0} → Wiring → ℕ → Shared V → Turned
 LeastTurned g worker h (turned.Played l) = IsLeastPoll g worker h l
 LeastTurned g worker h t = Unit {0}
 
-abbrev pub PollsLeastBy : {V D : Type 0} → Result Bool VringEpollError → Worker → Worker → PartsState V D → PartsState V D → Type 0
+abbrev pub PollsLeastBy : {V D : Type 0} → Result Bool VringEpollError → Worker → Worker → PartsState V D
+    → PartsState V D → Type 0
 PollsLeastBy result before now old new =
     AsWorker before result (λ g worker made. Tells old new (λ a b. LeastPolled g worker a made (phase_of now)))
 
-abbrev pub PollingLeastBy : {V D : Type 0} → Result Polling VringEpollError → Worker → PartsState V D → PartsState V D → Type 0
+abbrev pub PollingLeastBy : {V D : Type 0} → Result Polling VringEpollError → Worker → PartsState V D → PartsState V D
+    → Type 0
 PollingLeastBy result before old new =
     AsWorker before result (λ g worker polled. Tells old new (λ a b. PollingLeast g worker a polled))
 
-abbrev pub TurnsLeastBy : {V D : Type 0} → Result Turned VringEpollError → Worker → PartsState V D → PartsState V D → Type 0
+abbrev pub TurnsLeastBy : {V D : Type 0} → Result Turned VringEpollError → Worker → PartsState V D → PartsState V D
+    → Type 0
 TurnsLeastBy result before old new =
     AsWorker before result (λ g worker t. Tells old new (λ a b. LeastTurned g worker a t))
 
 -- a counter was read, which leaves this; or it could not be read, and the worker stops with this error
-abbrev pub ReadsBy : {V D : Type 0} → PartsState V D → PartsState V D → Result Phase VringEpollError → (Shared V → Local V) → VringEpollError → Type 0
+abbrev pub ReadsBy : {V D : Type 0} → PartsState V D → PartsState V D → Result Phase VringEpollError
+    → (Shared V → Local V) → VringEpollError → Type 0
 ReadsBy old new result local error =
     IfOk result (λ phase. Tells old new (λ a b. Reads old.NeverFails (HasFailed old new) (local a) error phase a b))
 
@@ -97,7 +107,8 @@ UsesNone result now = IfOk result (λ answer. now.finished ≡ None)
 
 -- What a turn leaves. The only error is want of memory, which leaves the worker and what is shared as they were. The
 -- worker stays the one that it is, and only faults and refusals stop it with the errors that are theirs.
-pub record TurnFrame {V D A : Type 0} (before now : Worker) (old new : PartsState V D) (result : Result A VringEpollError) : Type 0 where
+pub record TurnFrame {V D A : Type 0} (before now : Worker) (old new : PartsState V D)
+    (result : Result A VringEpollError) : Type 0 where
   pub same : SameWorker before now
   pub error : IfErr result (λ e. e ≡ OutOfMemory)
   pub err : OnErr result (now ≡ before)
@@ -106,18 +117,21 @@ pub record TurnFrame {V D A : Type 0} (before now : Worker) (old new : PartsStat
   pub lasts : Lasts old new
 
 -- the same of a step that calls no device
-pub record StepFrame {V D A : Type 0} (before now : Worker) (old new : PartsState V D) (result : Result A VringEpollError) : Type 0 where
+pub record StepFrame {V D A : Type 0} (before now : Worker) (old new : PartsState V D)
+    (result : Result A VringEpollError) : Type 0 where
   pub turn : TurnFrame before now old new result
   pub device : new.device ≡ old.device
   pub refusals : new.refusals ≡ old.refusals
 
 -- the same of one that is never refused
-pub record SureFrame {V D A : Type 0} (before now : Worker) (old new : PartsState V D) (result : Result A VringEpollError) : Type 0 where
+pub record SureFrame {V D A : Type 0} (before now : Worker) (old new : PartsState V D)
+    (result : Result A VringEpollError) : Type 0 where
   pub ok : IsOk result
   pub step : StepFrame before now old new result
 
 -- What a Hear leaves. It is never refused, and leaves what is shared.
-pub record HearFrame {V D A : Type 0} (before now : Worker) (old new : PartsState V D) (result : Result A VringEpollError) : Type 0 where
+pub record HearFrame {V D A : Type 0} (before now : Worker) (old new : PartsState V D)
+    (result : Result A VringEpollError) : Type 0 where
   pub ok : IsOk result
   pub shared : new.shared ≡ old.shared
   pub turn : TurnFrame before now old new result

@@ -32,10 +32,10 @@ use vub_vring::{HostOp, Parts, PartsError, PendOp, PendSaid, PutSaid, TableRing,
 
 /// A worker (`VringEpollHandler` of the Rust crate `vhost-user-backend`): the queues of its mask, and where it stands.
 ///
-/// Each step plays one row of the machine, and answers whether it was played: false exactly where the worker may not
-/// play it, and then nothing changes. A step in which the worker stops was played. Where the host fails, a worker that
-/// polls or reads a counter stops with the error of that call. The only error of a step is want of memory, which leaves
-/// the worker and the parts as they were.
+/// Each step makes one row of the machine, and answers whether it was made: false exactly where the worker may not make
+/// it, and then nothing changes. Where the host fails, a worker that polls or reads a counter stops with the error of
+/// that call, and where the device refuses an event, the worker stops with the device's number; such a step was made.
+/// The only error of a step is want of memory, which leaves the worker and the parts as they were.
 #[derive(Debug, Drop)]
 pub struct VringEpollHandler {
     opened: Opened,
@@ -206,7 +206,8 @@ impl VringEpollHandler {
         }
     }
 
-    /// Sweep: all pending numbers are taken, and their queues are served, in order. Takes no memory, and is never refused.
+    /// Sweep: all pending numbers are taken, and their queues are served, in order. Takes no memory, and is never
+    /// refused.
     pub fn sweep_step<P: Parts>(
         &mut self,
         alloc: Global,
@@ -267,8 +268,8 @@ impl VringEpollHandler {
         }
     }
 
-    /// Hear: the device handles the event of the listener that was heard, or refuses it, and then the worker stops. Takes
-    /// no memory, and is never refused.
+    /// Hear: the device handles the event of the listener that was heard; where it refuses that, the worker stops. Takes no
+    /// memory, and has no error.
     pub fn hear_step<P: Parts>(
         &mut self,
         alloc: Global,
@@ -430,7 +431,8 @@ impl VringEpollHandler {
         }
     }
 
-    /// Makes the step that the worker may make, if it has one.
+    /// Makes the step that the worker may make, if it has one, and tells which: `Pass` exactly where it has none, and
+    /// `Failed` only where the host failed at a poll.
     ///
     /// # Errors
     /// Want of memory leaves the worker and the parts as they were.

@@ -100,7 +100,12 @@ impl Parts for Silent {
         Ok(KickSaid::Serve)
     }
 
-    fn put(&mut self, _alloc: Global, _entry: &Entry, _reply: &[u8]) -> Result<PutSaid, PartsError> {
+    fn put(
+        &mut self,
+        _alloc: Global,
+        _entry: &Entry,
+        _reply: &[u8],
+    ) -> Result<PutSaid, PartsError> {
         Ok(PutSaid::Done)
     }
 
@@ -176,11 +181,11 @@ fn report(object: u32, token: u64) -> Option<Ready> {
     })
 }
 
-/// Parts whose next poll gives this member, with one entry left.
-fn with_report(alloc: Global, ready: Option<Ready>) -> Result<Silent, OutOfMemory> {
+/// Parts whose next poll gives this member, with so many entries left.
+fn with_report(alloc: Global, ready: Option<Ready>, left: u32) -> Result<Silent, OutOfMemory> {
     Ok(Silent {
         ready,
-        left: 1,
+        left,
         device: one_queue(alloc)?,
     })
 }
@@ -199,7 +204,7 @@ enum Came {
     Put,
 }
 
-fn came(turned: &Turned) -> Came {
+fn came_to(turned: &Turned) -> Came {
     match turned {
         Turned::Played(Play::Poll { object }) => Came::Poll(*object),
         Turned::Played(Play::Event) => Came::Event,
@@ -223,92 +228,74 @@ fn after<P: Parts>(
     let mut worker = VringEpollHandler::over(alloc, parts, OPENED)?;
     for turn in turns {
         let turned = worker.turn(alloc, parts)?;
-        assert_eq!(rt; came(&turned), *turn);
+        assert_eq!(rt; came_to(&turned), *turn);
     }
     Ok(worker)
 }
 
+/// A report of a poll, how many entries are left, and the turns that follow.
+type Case = (Option<Ready>, u32, [Came; 5]);
+
 #[test]
-fn an_entry_is_taken_served_and_used(rt: HostRuntime) -> Result<(), Fail> {
+fn turns_over_parts_that_tell_nothing(rt: HostRuntime) -> Result<(), Fail> {
     let alloc = rt.alloc();
-    let mut parts = with_report(alloc, report(7, 0))?;
-    let used = [
-        Came::Poll(7),
-        Came::Event,
-        Came::Take,
-        Came::Serve,
-        Came::Put,
+    let cases: [Case; 3] = [
+        (
+            report(7, 0),
+            1,
+            [
+                Came::Poll(7),
+                Came::Event,
+                Came::Take,
+                Came::Serve,
+                Came::Put,
+            ],
+        ),
+        (
+            report(7, 0),
+            0,
+            [
+                Came::Poll(7),
+                Came::Event,
+                Came::Take,
+                Came::Pass,
+                Came::Pass,
+            ],
+        ),
+        (
+            report(7, 2),
+            0,
+            [
+                Came::Poll(7),
+                Came::Event,
+                Came::Hear,
+                Came::Pass,
+                Came::Pass,
+            ],
+        ),
     ];
-    let mut worker = after(&rt, alloc, &mut parts, &used)?;
-    assert!(rt; worker.take_finished().is_some());
-    assert_eq!(rt; worker.opened(), OPENED);
+    for (ready, left, turns) in cases {
+        let mut parts = with_report(alloc, ready, left)?;
+        let mut worker = after(&rt, alloc, &mut parts, &turns)?;
+        assert_eq!(rt; worker.take_finished().is_some(), left > 0);
+        assert_eq!(rt; worker.opened(), OPENED);
+    }
     Ok(())
 }
 
 #[test]
-fn a_worker_without_entries_is_idle_again(rt: HostRuntime) -> Result<(), Fail> {
+fn each_step_by_itself(rt: HostRuntime) -> Result<(), Fail> {
     let alloc = rt.alloc();
-    let mut parts = with_report(alloc, report(7, 0))?;
-    parts.left = 0;
-    let looked = [
-        Came::Poll(7),
-        Came::Event,
-        Came::Take,
-        Came::Pass,
-    ];
-    let worker = after(&rt, alloc, &mut parts, &looked)?;
-    assert!(rt; matches!(worker.phase(), Phase::Idle));
-    Ok(())
-}
-
-#[test]
-fn an_idle_worker_polls(rt: HostRuntime) -> Result<(), Fail> {
-    let alloc = rt.alloc();
-    let mut parts = with_report(alloc, report(7, 0))?;
+    let mut parts = with_report(alloc, report(7, 0), 1)?;
     let constants = one_worker(alloc)?;
     let mut worker = VringEpollHandler::from_constants(alloc, &constants, OPENED)?;
     assert!(rt; worker.poll_step(alloc, &mut parts)?);
-    Ok(())
-}
-
-#[test]
-fn a_kick_is_served(rt: HostRuntime) -> Result<(), Fail> {
-    let alloc = rt.alloc();
-    let mut parts = with_report(alloc, report(7, 0))?;
-    let mut worker = after(&rt, alloc, &mut parts, &[Came::Poll(7)])?;
     assert!(rt; worker.event_step(alloc, &mut parts)?);
     assert!(rt; worker.take_step(alloc, &mut parts)?);
-    Ok(())
-}
-
-#[test]
-fn an_entry_in_hand_is_served_and_put(rt: HostRuntime) -> Result<(), Fail> {
-    let alloc = rt.alloc();
-    let mut parts = with_report(alloc, report(7, 0))?;
-    let taken = [Came::Poll(7), Came::Event, Came::Take];
-    let mut worker = after(&rt, alloc, &mut parts, &taken)?;
     assert!(rt; worker.serve_step(alloc, &mut parts)?);
     assert!(rt; worker.put_step(alloc, &mut parts)?);
-    Ok(())
-}
-
-#[test]
-fn a_bell_is_swept(rt: HostRuntime) -> Result<(), Fail> {
-    let alloc = rt.alloc();
-    let mut parts = with_report(alloc, report(0, 1))?;
-    let rung = [Came::Poll(0), Came::Event];
-    let mut worker = after(&rt, alloc, &mut parts, &rung)?;
-    assert!(rt; worker.sweep_step(alloc, &mut parts)?);
-    Ok(())
-}
-
-#[test]
-fn a_listener_is_heard(rt: HostRuntime) -> Result<(), Fail> {
-    let alloc = rt.alloc();
-    let mut parts = with_report(alloc, report(7, 2))?;
-    let heard = [Came::Poll(7), Came::Event, Came::Hear, Came::Pass];
-    let mut worker = after(&rt, alloc, &mut parts, &heard)?;
     assert!(rt; !worker.hear_step(alloc, &mut parts)?);
+    assert!(rt; !worker.sweep_step(alloc, &mut parts)?);
     Ok(())
 }
 
