@@ -7,24 +7,33 @@ ghost use Rattle.vub_event.specs.HostCalls.{SignalCall, ConsumeCall};
 ghost use Rattle.vub_counter.specs.CounterCalls.{MakesEvent};
 
 use std::alloc::Global;
+use std::marker::Model;
 use vub_event::{Host, HostError};
 
-/// An event counter of a host: eventfd(2).
+/// An event counter of a host: eventfd(2). A contract sees the number of its object.
 #[derive(Debug, Drop)]
 pub struct EventFd {
     object: u32,
 }
 
+impl Model for EventFd {
+    ghost use Rattle.std.specs.Prelude.{ℕ};
+
+    ghost Value = { ℕ };
+
+    ghost view = { λ fd. fd.object };
+}
+
 impl EventFd {
-    /// A new counter at 0. The flags are those of eventfd(2): `EFD_SEMAPHORE` 1, `EFD_NONBLOCK` 0x800 and `EFD_CLOEXEC`
-    /// 0x80000.
+    /// A new counter at 0. The flags are those of eventfd(2): [`crate::EFD_SEMAPHORE`], [`crate::EFD_NONBLOCK`] and
+    /// [`crate::EFD_CLOEXEC`].
     ///
     /// # Errors
     /// As [`Host::create_event`].
     pub fn new<H: Host>(alloc: Global, host: &mut H, flags: i32) -> Result<EventFd, HostError>
         ensures faults { CountsFaults (H.fault_count host.old) (H.fault_count host.new) (H.never_fails host.old) (H.never_fails host.new) result }
         ensures refusals { RefusesBy result (HostError.Failed ∷ HostError.EINVAL ∷ HostError.OutOfMemory ∷ []) }
-        ensures table { Told (H.held host.old) (H.held host.new) (MakesEvent (λ fd. fd.object) (cast_unsigned w32 flags) result) }
+        ensures table { Told (H.held host.old) (H.held host.new) (MakesEvent (λ fd. fd) (cast_unsigned w32 flags) result) }
     {
         let object = host.create_event(alloc, flags.cast_unsigned())?;
         Ok(EventFd { object })
@@ -37,7 +46,7 @@ impl EventFd {
     pub fn write<H: Host>(&self, host: &mut H, v: u64) -> Result<(), HostError>
         ensures faults { CountsFaults (H.fault_count host.old) (H.fault_count host.new) (H.never_fails host.old) (H.never_fails host.new) result }
         ensures refusals { RefusesBy result (HostError.Failed ∷ HostError.WouldBlock ∷ HostError.EINVAL ∷ HostError.EBADF ∷ []) }
-        ensures table { Told (H.held host.old) (H.held host.new) (SignalCall self.now.object v result) }
+        ensures table { Told (H.held host.old) (H.held host.new) (SignalCall self.now v result) }
     {
         host.signal(self.object, v)
     }
@@ -49,7 +58,7 @@ impl EventFd {
     pub fn read<H: Host>(&self, host: &mut H) -> Result<u64, HostError>
         ensures faults { CountsFaults (H.fault_count host.old) (H.fault_count host.new) (H.never_fails host.old) (H.never_fails host.new) result }
         ensures refusals { RefusesBy result (HostError.Failed ∷ HostError.WouldBlock ∷ HostError.EBADF ∷ []) }
-        ensures table { Told (H.held host.old) (H.held host.new) (ConsumeCall self.now.object result) }
+        ensures table { Told (H.held host.old) (H.held host.new) (ConsumeCall self.now result) }
     {
         host.consume(self.object)
     }
@@ -65,14 +74,14 @@ impl EventFd {
 
     /// The number of its object.
     pub fn object(&self) -> u32
-        ensures { result ≡ self.now.object }
+        ensures { result ≡ self.now }
     {
         self.object
     }
 
     /// The counter of the object with this number.
     pub fn from_object(object: u32) -> EventFd
-        ensures { result.object ≡ object }
+        ensures { result ≡ object }
     {
         EventFd { object }
     }

@@ -1,6 +1,7 @@
 ghost use Rattle.std.specs.Prelude.{⊤, [], ◌∷◌, ◌≡◌, codes};
 ghost use Rattle.vub_counter.specs.Flags.{made_flags};
 
+use crate::eventfd_flags::{EFD_CLOEXEC, EFD_NONBLOCK};
 use bitflags::{Flag, Flags, bitflag_items};
 
 /// How an event counter is made: without waiting, and not handed on to other programs.
@@ -41,8 +42,8 @@ impl EventFlag {
     pub(crate) fn event_flags(self) -> u32
         ensures { result ≡ made_flags self.0 }
     {
-        let nonblock = if self.0 & 1 == 1 { 0x800 } else { 0 };
-        let cloexec = if self.0 & 2 == 2 { 0x8_0000 } else { 0 };
-        nonblock + cloexec
+        let nonblock = if self.0 & 1 == 1 { EFD_NONBLOCK } else { 0 };
+        let cloexec = if self.0 & 2 == 2 { EFD_CLOEXEC } else { 0 };
+        (nonblock + cloexec).cast_unsigned()
     }
 }

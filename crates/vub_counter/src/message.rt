@@ -1,7 +1,7 @@
 use vub_base::{Bytes, Listed};
 
 /// A message: some bytes and the objects that go with them.
-#[derive(Drop)]
+#[derive(Debug, Drop)]
 pub struct Message {
     /// The bytes.
     pub bytes: Bytes,

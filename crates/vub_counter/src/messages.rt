@@ -126,7 +126,7 @@ pub trait ScmSocket: Drop {
 }
 
 /// A socket in memory: what is sent stands in its own queue until it is received. A contract sees the queue.
-#[derive(Drop)]
+#[derive(Debug, Drop)]
 pub struct MemSocket {
     queue: VecDeque<Message>,
 }

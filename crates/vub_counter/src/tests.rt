@@ -1,10 +1,12 @@
 use crate::{
-    EventFd, EventFlag, IntoIovec, MemSocket, ScmSocket, TimerFd, new_event_consumer_and_notifier,
+    EFD_CLOEXEC, EFD_NONBLOCK, EFD_SEMAPHORE, EventConsumer, EventFd, EventFlag, EventNotifier,
+    IntoIovec, MemSocket, Message, ScmSocket, TimerFd, new_event_consumer_and_notifier,
 };
 use std::alloc::Global;
 use std::process::Abort;
 use std::test::Fail;
 use std::time::Duration;
+use vub_base::{Bytes, Listed};
 use vub_event::{Host, HostError, MemHost};
 
 #[test]
@@ -21,6 +23,64 @@ fn counter_is_shared_by_its_clones(rt: HostRuntime) -> Result<(), Fail> {
         EventFd::new(rt.alloc(), &mut host, 2).map(|made| made.object()),
         Err(HostError::EINVAL)
     );
+    Ok(())
+}
+
+#[test]
+fn semaphore_gives_one_at_a_time(rt: HostRuntime) -> Result<(), Fail> {
+    let mut host = MemHost::new(rt.alloc());
+    let flags = EFD_SEMAPHORE | EFD_NONBLOCK | EFD_CLOEXEC;
+    let semaphore = EventFd::new(rt.alloc(), &mut host, flags)?;
+    semaphore.write(&mut host, 2)?;
+    for answer in [Ok(1), Ok(1), Err(HostError::WouldBlock)] {
+        assert_eq!(rt; semaphore.read(&mut host), answer);
+    }
+    Ok(())
+}
+
+#[test]
+fn types_are_shown(rt: HostRuntime) -> Result<(), Fail> {
+    let alloc = rt.alloc();
+    let mut timer = TimerFd::new();
+    timer.reset(Duration::ZERO, Duration::from_nanos(9), None);
+    let mut socket = MemSocket::new(alloc);
+    socket.send_with_fd(alloc, &mut MemHost::new(alloc), b"a".as_slice(), 3)?;
+    let message = Message {
+        bytes: Bytes::from_slice(alloc, b"a")?,
+        objects: Listed::from_vec(Vec::from_slice(alloc, &[3])?),
+    };
+    for (shown, text) in [
+        (
+            format!(in alloc; "{:?}", EventFd::from_object(3))?,
+            "EventFd { object: 3 }",
+        ),
+        (
+            format!(in alloc; "{:?}", EventNotifier::from_object(3))?,
+            "EventNotifier { object: 3 }",
+        ),
+        (
+            format!(in alloc; "{:?}", EventConsumer::from_object(3))?,
+            "EventConsumer { object: 3 }",
+        ),
+        (
+            format!(in alloc; "{:?}", EventFlag::CLOEXEC)?,
+            "EventFlag(2)",
+        ),
+        (
+            format!(in alloc; "{timer:?}")?,
+            "TimerFd { armed: Some(Armed { next: 9, interval: 0 }) }",
+        ),
+        (
+            format!(in alloc; "{message:?}")?,
+            "Message { bytes: Bytes { octets: [97] }, objects: Listed { elements: [3] } }",
+        ),
+        (
+            format!(in alloc; "{socket:?}")?,
+            "MemSocket { queue: [Message { bytes: Bytes { octets: [97] }, objects: Listed { elements: [3] } }] }",
+        ),
+    ] {
+        assert_eq!(rt; shown.as_str(), text);
+    }
     Ok(())
 }
 
