@@ -1,21 +1,16 @@
 -- The number of a ring's next entry in 16 bits is its base plus the entries taken since, modulo 2^16, at every moment.
 use Rattle.vub_proto.specs.declared.answer.Answer.TheVariants as answer
-use Rattle.std.proofs.Common.{◌≡◌, ℕ, ◌+◌, ◌*◌, ◌/◌, ◌%◌, ◌^◌, ◌<◌, not, ◌&&◌, [], ◌∷◌, Option, Some, None, sym, ap, ◌∙◌, arith, nat_lt}
+use Rattle.std.proofs.Common.{◌≡◌, ℕ, ◌+◌, ◌*◌, ◌/◌, ◌%◌, ◌^◌, ◌<◌, [], ◌∷◌, sym, ap, ◌∙◌, arith}
 use Rattle.std.proofs.Math.Nat.{mod-add-div', add-mul-mod_self_right}
 use native.Mathlib.Nat.{mod-eq_of_lt}
-use Rattle.std.proofs.lemmas.Bool.{cond_both}
-use Rattle.vub_model.specs.declared.ring_op.RingOp.{RingOp}
 use Rattle.vub_model.specs.declared.ring_op.RingOp.TheVariants as op
 use Rattle.vub_model.specs.declared.small.Small.TheVariants.{Answer as Answering}
 use Rattle.vub_model.specs.EntryNumber.{IsCounted}
 use Rattle.vub_model.specs.Faithful.{Counted}
-use Rattle.vub_model.specs.Frame.{Frame}
-use Rattle.vub_model.specs.RingRecord.{Vring, waits, fits, limit, changed, ring_after}
+use Rattle.vub_model.specs.RingRecord.{Vring, changed}
 use Rattle.vub_model.specs.Shared.{Shared, ring_at}
-use Rattle.vub_model.specs.Wiring.{Wiring}
 use Rattle.vub_model.specs.Control.{answers_by, answer_of}
 use Rattle.vub_model.specs.Plans.{Plan, next_of}
-use Rattle.vub_model.specs.Schedule.{SetFits}
 use Rattle.vub_model.proofs.EachRing.{KeptByWrites}
 use Rattle.vub_model.proofs.Settings.{Kept, rebased}
 

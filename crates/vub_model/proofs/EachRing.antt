@@ -1,31 +1,26 @@
 -- What each write of a ring keeps holds of all rings after each step.
-use Rattle.std.proofs.Common.{ℕ, ◌<◌, ◌^◌, Bool, true, false, inl, inr, List, [], ◌∷◌, length, Option, Some, None, sym, subst, slice_index_or}
-use Rattle.std.proofs.lemmas.Bool.{cases_eq, cases_lt}
+use Rattle.std.proofs.Common.{ℕ, ◌<◌, ◌^◌, Bool, true, false, List, [], ◌∷◌, Option, Some, None, sym, subst}
 use Rattle.vub_model.specs.declared.entry.Entry.{Entry}
 use Rattle.vub_model.specs.declared.party.Party.{Party}
 use Rattle.vub_model.specs.declared.party.Party.TheVariants as party
 use Rattle.vub_model.specs.declared.play.Play.{Play}
 use Rattle.vub_model.specs.declared.play.Play.TheVariants as play
 use Rattle.vub_model.specs.declared.phase.Phase.{Phase}
-use Rattle.vub_model.specs.declared.ring_op.RingOp.{RingOp}
 use Rattle.vub_model.specs.declared.ring_op.RingOp.TheVariants as op
 use Rattle.vub_model.specs.declared.setup.Guest.{Guest}
 use Rattle.vub_model.specs.declared.setup.Guest.TheVariants.{Store, Signal}
 use Rattle.vub_model.specs.declared.small.Small.{Small}
-use Rattle.vub_model.specs.declared.small.Small.TheVariants.{Claim, Release, Add, Delete, Listen, Unlisten, Bell, Remove, Insert, Set, Info, Table, Log, Device, Answer as Answering}
-use Rattle.vub_model.specs.RingRecord.{Vring, closed_ring, changed, ring_after}
+use Rattle.vub_model.specs.RingRecord.{Vring, changed, ring_after}
 use Rattle.vub_model.specs.Shared.{Shared, ring_at, with_ring}
 use Rattle.vub_model.specs.Wiring.{Wiring}
 use Rattle.vub_model.specs.Work.{Local, MayWork, after_work, after_take, after_put, after_said, called, used, put_said}
 use Rattle.vub_proto.specs.declared.device_said.DeviceSaid.{DeviceSaid}
 use Rattle.vub_model.specs.Control.{MayControl, small_after}
-use Rattle.vub_model.specs.Frame.{Frame, frame_of}
 use Rattle.vub_model.specs.Service.{Meaning}
 use Rattle.vub_model.specs.World.{World, May, after, after_guest, phase_at}
 use Rattle.vub_model.specs.RunOf.{Turn}
-use Rattle.vub_model.specs.Schedule.{Fits, SetFits, Invariant}
+use Rattle.vub_model.specs.Schedule.{Invariant}
 use Rattle.vub_model.proofs.Cases.{work-cases, event-shared, take-leaf, none-leaf, said-cases}
-use Rattle.vub_model.proofs.Counting.{ring-own, ring-other, ring-past}
 use Rattle.vub_model.proofs.Turns.{turn-cases}
 use Rattle.vub_model.proofs.Live.{looked-live, live-taken}
 use Rattle.vub_model.proofs.SmallRings.{ring-all, ring-small}

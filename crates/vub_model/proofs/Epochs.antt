@@ -1,7 +1,7 @@
 -- The takes of each epoch are numbered on from its base, which is the given one or that of an accepted change of base.
 use Rattle.std.proofs.Common.{◌≡◌, ℕ, ◌+◌, ◌<◌, Bool, true, false, cond, not, ◌&&◌, inl, inr, List, [], ◌∷◌, ◌++◌, length, Option, Some, None, refl, sym, ap, ◌∙◌, subst, arith, nat_lt, append_assoc, append-nil, slice_index_or, Ok, Err}
 use Rattle.std.proofs.lemmas.List.{length-append, get_or_append_left, get_or_at}
-use Rattle.std.proofs.lemmas.Bool.{cases_eq, cond_both, eq-eqb, ne_eqb}
+use Rattle.std.proofs.lemmas.Bool.{cases_eq, eq-eqb, ne_eqb}
 use Rattle.vub_queue.specs.declared.chain.Chain.{Chain}
 use Rattle.vub_queue.specs.declared.took.Took.TheVariants as took
 use Rattle.vub_proto.specs.declared.device_said.DeviceSaid.{DeviceSaid}
@@ -19,7 +19,7 @@ use Rattle.vub_model.specs.declared.setup.Guest.{Guest}
 use Rattle.vub_model.specs.declared.setup.Guest.TheVariants.{Store, Signal}
 use Rattle.vub_model.specs.declared.small.Small.{Small}
 use Rattle.vub_model.specs.declared.small.Small.TheVariants.{Claim, Release, Add, Delete, Listen, Unlisten, Bell, Remove, Insert, Set, Info, Table, Log, Device, Answer as Answering}
-use Rattle.vub_model.specs.RingRecord.{Vring, waits, fits, based, limit, changed, ring_after}
+use Rattle.vub_model.specs.RingRecord.{Vring, waits, based, limit, ring_after}
 use Rattle.vub_model.specs.Shared.{Shared, ring_at, with_ring}
 use Rattle.vub_model.specs.Wiring.{Wiring}
 use Rattle.vub_model.specs.Work.{Local, MayWork, after_work, after_take, after_took, after_put, after_said, called, used, put_said, looked, entry_of}

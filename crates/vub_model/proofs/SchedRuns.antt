@@ -1,32 +1,25 @@
 -- The schedule invariant holds along every run, so that no kick is lost at rest.
-use Rattle.std.proofs.Common.{◌≡◌, ◌≢◌, ℕ, ◌+◌, ◌<◌, ◌≤◌, Bool, true, false, cond, not, ◌&&◌, List, [], ◌∷◌, length, refl, sym, ap, ◌∙◌, subst, arith, eqb, slice_index_or, inl, inr}
-use Rattle.std.proofs.lemmas.Bool.{and_parts, cases_eq, cases_lt}
+use Rattle.std.proofs.Common.{◌≡◌, ◌≢◌, ℕ, ◌+◌, ◌<◌, ◌≤◌, Bool, true, false, cond, not, ◌&&◌, List, [], ◌∷◌, length, refl, sym, ap, ◌∙◌, subst, arith, eqb}
+use Rattle.std.proofs.lemmas.Bool.{and_parts}
 use Rattle.vub_model.specs.declared.play.Play.{Play}
 use Rattle.vub_model.specs.declared.play.Play.TheVariants as play
 use Rattle.vub_model.specs.declared.party.Party.{Party}
 use Rattle.vub_model.specs.declared.party.Party.TheVariants as party
 use Rattle.vub_model.specs.declared.setup.Guest.{Guest}
 use Rattle.vub_model.specs.declared.setup.Guest.TheVariants.{Store, Signal}
-use Rattle.vub_model.specs.RingRecord.{limit, Vring, closed_ring, ring_after}
-use Rattle.vub_model.specs.Shared.{ring_at, Shared, with_ring}
+use Rattle.vub_model.specs.RingRecord.{limit}
+use Rattle.vub_model.specs.Shared.{ring_at}
 use Rattle.vub_model.specs.Service.{Meaning}
-use Rattle.vub_model.specs.World.{World, May, after, after_guest, after_control}
+use Rattle.vub_model.specs.World.{World, May, after, after_guest}
 use Rattle.vub_model.specs.RunOf.{party_of, Turn, IsRun, IsAtRest}
 use Rattle.vub_model.specs.Running.{index_word, signals, signals_kick, unsettles, calm_after, calm_end, NoneIsLost}
-use Rattle.vub_model.specs.Schedule.{Invariant, Fits}
+use Rattle.vub_model.specs.Schedule.{Invariant}
 use Rattle.vub_model.proofs.Turns.{turn-cases, turn-next}
 use Rattle.vub_model.proofs.SchedWork.{sched-worker, taken-worker}
 use Rattle.vub_model.proofs.SchedGuest.{sched-guest}
 use Rattle.vub_model.proofs.SchedControl.{sched-control}
 use Rattle.vub_model.proofs.SmallRings.{small-leaves}
 use Rattle.vub_model.proofs.Resting.{none-left}
-use Rattle.vub_model.proofs.Counting.{ring-own, ring-other, ring-past}
-use Rattle.vub_model.specs.declared.ring_op.RingOp.TheVariants as op
-use Rattle.vub_model.specs.declared.small.Small.{Small}
-use Rattle.vub_proto.specs.declared.device_said.DeviceSaid.{DeviceSaid}
-use Rattle.vub_model.specs.Control.{MayControl, small_after, next_used_at, tail_of}
-use Rattle.vub_model.specs.declared.small.Small.TheVariants.{Claim, Release, Add, Delete, Listen, Unlisten, Bell, Remove, Insert, Set, Info, Table, Log, Device, Answer as Answering}
-use Rattle.vub_model.specs.Frame.{frame_of}
 
 -- each ring has fewer entries taken than the limit, also after this many more
 abbrev pub IsFew : {V : Type 0} → World V → ℕ → Type 0

@@ -1,30 +1,23 @@
 -- Once and in order over several bases: in every run of a valid set-up the service was asked in the order of the Serve
 -- steps, and each queue's entries were taken once and in order, numbered from each base, and used each with its reply, but
 -- for at most one in flight or held.
-use Rattle.std.proofs.Common.{◌≡◌, ℕ, ◌+◌, Bool, not, ◌&&◌, List, [], ◌∷◌, ◌++◌, length, Option, Some, None, refl, sym, ap, ◌∙◌, subst, arith, nat_lt, append_assoc, append-nil}
-use Rattle.std.proofs.lemmas.Bool.{cond_both}
+use Rattle.std.proofs.Common.{◌≡◌, ℕ, ◌+◌, Bool, List, [], ◌∷◌, ◌++◌, length, refl, sym, ap, ◌∙◌, subst, arith, append_assoc, append-nil}
 use Rattle.vub_proto.specs.declared.device_said.DeviceSaid.{DeviceSaid}
 use Rattle.vub_model.specs.declared.party.Party.{Party}
 use Rattle.vub_model.specs.declared.play.Play.{Play}
 use Rattle.vub_model.specs.declared.phase.Phase.{Phase}
 use Rattle.vub_model.specs.declared.phase.Phase.TheVariants.{Idle, Polled, Sweep, Heard, Serving, Taken, Served, Stopped}
 use Rattle.vub_model.specs.declared.records.Take.{Take}
-use Rattle.vub_model.specs.declared.ring_op.RingOp.{RingOp}
-use Rattle.vub_model.specs.declared.ring_op.RingOp.TheVariants as op
 use Rattle.vub_model.specs.declared.small.Small.{Small}
-use Rattle.vub_model.specs.declared.small.Small.TheVariants.{Claim, Release, Add, Delete, Listen, Unlisten, Bell, Remove, Insert, Set, Info, Table, Log, Device, Answer as Answering}
-use Rattle.vub_model.specs.RingRecord.{Vring, waits, fits, limit, changed, ring_after}
+use Rattle.vub_model.specs.RingRecord.{Vring, fits}
 use Rattle.vub_model.specs.Shared.{ring_at}
-use Rattle.vub_model.specs.Wiring.{Wiring}
-use Rattle.vub_model.specs.Control.{MayControl, small_after, next_used_at, tail_of}
-use Rattle.vub_model.specs.Frame.{Frame, frame_of}
+use Rattle.vub_model.specs.Control.{MayControl}
 use Rattle.vub_model.specs.Service.{Meaning}
 use Rattle.vub_model.specs.World.{World, phase_at, after_control}
 use Rattle.vub_model.specs.RunOf.{party_of, next, Turn, IsRun}
 use Rattle.vub_model.specs.Running.{calm_after}
 use Rattle.vub_model.specs.Headline.{Asked, asked, asked_at, takes_of}
-use Rattle.vub_model.specs.Schedule.{PhaseFits, HasInHand, Fits, SetFits, Invariant}
-use Rattle.vub_model.proofs.Counting.{field-kept}
+use Rattle.vub_model.specs.Schedule.{PhaseFits, HasInHand, Invariant}
 use Rattle.vub_model.proofs.Turns.{turn-cases, turn-next}
 use Rattle.vub_model.proofs.Owners.{Owned, OwnPhase}
 use Rattle.vub_model.proofs.Flow.{Flow}

@@ -1,18 +1,12 @@
 -- The size of a ring is a power of two, and no greater than the device allows, at every moment.
-use Rattle.std.proofs.Common.{◌≡◌, ℕ, ◌+◌, ◌≤◌, Bool, true, false, not, ◌&&◌, nat_le, Option, Some, None, Result, Ok, Err, refl, cond}
+use Rattle.std.proofs.Common.{◌≡◌, ℕ, ◌≤◌, Bool, true, false, ◌&&◌, nat_le, Result, Ok, Err, refl, cond}
 use Rattle.std.specs.Int.{is_power_of_two}
 use Rattle.std.specs.Result.{is_ok}
-use Rattle.std.proofs.lemmas.Bool.{cond_both, and_parts, leb-true}
+use Rattle.std.proofs.lemmas.Bool.{leb-true}
 use Rattle.vub_queue.specs.declared.error.QueueError.TheVariants.{InvalidSize}
-use Rattle.vub_model.specs.declared.ring_op.RingOp.{RingOp}
-use Rattle.vub_model.specs.declared.ring_op.RingOp.TheVariants as op
-use Rattle.vub_model.specs.Frame.{Frame}
-use Rattle.vub_model.specs.RingRecord.{Vring, waits, fits, limit, changed, ring_after}
-use Rattle.vub_model.specs.Wiring.{Wiring}
-use Rattle.vub_model.specs.Schedule.{SetFits}
+use Rattle.vub_model.specs.RingRecord.{Vring}
 use Rattle.vub_model.proofs.EachRing.{KeptByWrites}
 use Rattle.vub_model.proofs.Settings.{Kept}
-use Rattle.std.proofs.Common.{nat_lt}
 
 -- so many slots a ring may have
 pub record IsSize (max size : ℕ) : Type 0 where

@@ -1,8 +1,7 @@
 -- What a control step makes of the rings: it leaves each, or sets one as it may be set.
-use Rattle.std.proofs.Common.{◌≡◌, ℕ, ◌<◌, ◌^◌, Bool, inl, inr, List, [], ◌∷◌, length, refl, sym, ap, subst, arith, slice_index_or, ◌∙◌, ◌+◌, ◌≤◌}
+use Rattle.std.proofs.Common.{◌≡◌, ℕ, ◌<◌, ◌^◌, Bool, inl, inr, List, [], ◌∷◌, length, refl, sym, ap, subst, arith, slice_index_or, ◌∙◌}
 use Rattle.std.proofs.lemmas.Bool.{cases_eq, cases_lt}
 use Rattle.vub_proto.specs.declared.device_said.DeviceSaid.{DeviceSaid}
-use Rattle.vub_model.specs.declared.ring_op.RingOp.{RingOp}
 use Rattle.vub_model.specs.declared.ring_op.RingOp.TheVariants as op
 use Rattle.vub_model.specs.declared.small.Small.{Small}
 use Rattle.vub_model.specs.declared.small.Small.TheVariants.{Claim, Release, Add, Delete, Listen, Unlisten, Bell, Remove, Insert, Set, Info, Table, Log, Device, Answer as Answering}

@@ -1,51 +1,32 @@
 -- What a step of control leaves: counters, events, the plan, and what is pending.
-use Rattle.std.proofs.Common.{◌≡◌, ◌≢◌, ℕ, ◌+◌, ◌<◌, ◌≤◌, Bool, true, false, cond, not, ◌&&◌, ◌||◌, ◌⊎◌, inl, inr, List, [], ◌∷◌, length, Option, Some, None, is_some, refl, sym, ap, ◌∙◌, subst, arith, eqb, nat_lt, slice_set, slice_index_or}
-use Rattle.std.specs.List.{AllByRecursion}
+use Rattle.std.proofs.Common.{◌≡◌, ℕ, ◌<◌, Bool, true, false, cond, not, ◌&&◌, ◌||◌, inl, inr, List, [], ◌∷◌, length, Option, Some, None, is_some, refl, sym, ap, ◌∙◌, subst, arith, eqb, slice_set, slice_index_or}
 use Rattle.std.proofs.Math.Seq.{map-set_same}
 use Rattle.std.proofs.Math.ListN.{get_or-map}
-use Rattle.std.proofs.lemmas.List.{get_or-set_same, get_or-set_other, get_or_past, set_past, length-set}
-use Rattle.std.proofs.lemmas.Bool.{cases_eq, cases_lt, eqb-true, eq-eqb, cond_both}
+use Rattle.std.proofs.lemmas.List.{get_or-set_same, get_or_past}
+use Rattle.std.proofs.lemmas.Bool.{cases_lt, eqb-true, eq-eqb}
 use Rattle.vub_event.specs.declared.event.Event.{Event}
-use Rattle.vub_event.specs.declared.member.Member.{Member}
-use Rattle.vub_mem.specs.declared.errors.MemError.{MemError}
-use Rattle.vub_event.specs.InterestList.{member_of, with_member, without_member}
-use Rattle.vub_model.specs.Work.{is_object}
 use Rattle.vub_event.specs.HostTable.{HostTable, event_at, with_event}
-use Rattle.vub_event.specs.HostCalls.{has_token_above, with_change, claimed_by, claim_after, release_after, add_after, delete_after, listener}
+use Rattle.vub_event.specs.HostCalls.{with_change, claimed_by, claim_after, release_after, add_after, delete_after, listener}
 use Rattle.vub_proto.specs.declared.answer.Answer.TheVariants as answer
 use Rattle.vub_proto.specs.declared.answer.VhostUserError.TheVariants as error
 use Rattle.vub_proto.specs.declared.answer.ListenerError.TheVariants as listener_error
 use Rattle.vub_proto.specs.declared.device_said.DeviceSaid.{DeviceSaid}
-use Rattle.vub_model.specs.declared.flight.Flight.TheVariants as flight
-use Rattle.vub_model.specs.declared.party.Party.TheVariants as party
-use Rattle.vub_model.specs.declared.play.Play.TheVariants as play
 use Rattle.vub_proto.specs.declared.request.Request.{Request}
-use Rattle.vub_model.specs.declared.ring_op.RingOp.{RingOp}
-use Rattle.vub_model.specs.declared.ring_op.RingOp.TheVariants as op
 use Rattle.vub_model.specs.declared.small.Small.{Small}
 use Rattle.vub_model.specs.declared.small.Small.TheVariants.{Claim, Release, Add, Delete, Listen, Unlisten, Bell, Remove, Insert, Set, Info, Table, Log, Device, Answer as Answering}
-use Rattle.vub_model.specs.declared.wiring.Known.{Known}
-use Rattle.vub_model.specs.RingRecord.{Vring, closed_ring, is_in_flight, waits, fits, based, limit, changed, ring_after, is_on, has_addresses}
-use Rattle.vub_model.specs.EntryNumber.{has_left}
-use Rattle.vub_model.specs.Shared.{Shared, ring_at, with_ring, count_at, count_of, raised, raised_option, pending_at, has_number, with_number, without_number, inserted, removed}
-use Rattle.vub_model.specs.Plans.{Plan, regions_after}
-use Rattle.vub_model.specs.Control.{Control, MayControl, small_after, waits_now, can_claim, can_add, can_listen, can_unlisten, next_used_at, rest_after, tail_of, played, begun_from, instead, told, drop_two, table_refusal, used_index_covers, regions_unless}
-use Rattle.vub_model.specs.Frame.{Frame, known_of, frame_of, claim_at, list_at, is_member}
-use Rattle.vub_model.specs.FrameSteps.{known_after, passes, with_new, without_above, with_list, frame_step}
-use Rattle.vub_model.specs.Wiring.{Wiring, opened_at, IsPlaced}
-use Rattle.vub_model.specs.World.{World, phase_at, after_control}
-use Rattle.vub_model.specs.Running.{HasStopped, index_word, calm_after}
-use Rattle.vub_model.specs.Schedule.{IsNumber, Linked, Wired, Safe, Fits, SetFits, Quiet, IsKickAt, First, IsHandled, RequestFits, Rung, ringing, Woken, signalled, waiting, listed, Awake, Invariant}
-use Rattle.vub_model.proofs.Places.{one-place, one-queue}
-use Rattle.vub_model.proofs.Settings.{set-leaves, info-leaves}
-use Rattle.vub_model.proofs.Counting.{raised-above, field-kept, ring-own, ring-other, raised-keeps}
-use Rattle.vub_model.proofs.Registering.{number-own, number-kept, number-from}
-use Rattle.vub_model.proofs.Waking.{woken-by, has-more, has-rest}
-use Rattle.vub_model.proofs.SchedWork.{object-is, known-ring, kick-ring, rung-moved}
-use Rattle.vub_model.proofs.Linking.{kick_at, list-own, list-other, one-kick, unclaimed-other, unlisten-settled}
-use Rattle.vub_model.proofs.Members.{without-own, without-other, new-other}
-use Rattle.vub_model.proofs.Stepping.{frame_after, SafePlan, Next, step-next, claim-step, listen-step, add-step, outcome-safe, refusal-safe, told-safe, begun-all}
-use Rattle.vub_model.proofs.FrameSmall.{info-kept, known-changed, NamesEvent, frame-small, claim-same, listen-same}
+use Rattle.vub_model.specs.RingRecord.{fits}
+use Rattle.vub_model.specs.Shared.{Shared, count_at, count_of, raised_option, has_number, without_number}
+use Rattle.vub_model.specs.Plans.{Plan}
+use Rattle.vub_model.specs.Control.{Control, small_after, can_claim, can_add, can_listen, can_unlisten, rest_after, begun_from, instead, told, drop_two, table_refusal, used_index_covers}
+use Rattle.vub_model.specs.Frame.{Frame, frame_of, list_at, is_member}
+use Rattle.vub_model.specs.FrameSteps.{passes, frame_step}
+use Rattle.vub_model.specs.Wiring.{Wiring, opened_at}
+use Rattle.vub_model.specs.Schedule.{Linked, Wired, Safe, Fits, First}
+use Rattle.vub_model.proofs.Counting.{raised-above, raised-keeps}
+use Rattle.vub_model.proofs.Waking.{has-more, has-rest}
+use Rattle.vub_model.proofs.Linking.{unlisten-settled}
+use Rattle.vub_model.proofs.Stepping.{frame_after, Next, step-next, claim-step, listen-step, add-step, outcome-safe, refusal-safe, told-safe}
+use Rattle.vub_model.proofs.FrameSmall.{NamesEvent, claim-same, listen-same}
 
 -- no counter falls
 count-claim : (t : HostTable) (o x : ℕ) (owner : Option ℕ) (event : Option Event) → event_at t o ≡ event → count_at (with_change (claimed_by owner) t o event) x ≡ count_at t x

@@ -1,5 +1,5 @@
 -- What a worker's Event, Take and Put lead to, where the schedule invariant holds.
-use Rattle.std.proofs.Common.{◌≡◌, ℕ, ◌<◌, Bool, true, false, cond, not, ◌&&◌, inl, inr, List, [], ◌∷◌, length, Option, is_some, refl, sym, ◌∙◌, subst, arith, eqb, nat_lt}
+use Rattle.std.proofs.Common.{◌≡◌, ℕ, ◌<◌, Bool, true, false, cond, inl, inr, List, [], ◌∷◌, length, Option, is_some, sym, ◌∙◌, subst, arith, eqb, nat_lt}
 use Rattle.std.proofs.lemmas.Bool.{cond_both, cond-true, lt-ltb, le-ltb, ltb-false, eq-eqb, ne_eqb}
 use Rattle.vub_queue.specs.declared.chain.Chain.{Chain}
 use Rattle.vub_queue.specs.declared.took.Took.{Took}
@@ -13,23 +13,17 @@ use Rattle.vub_queue.specs.Take.{IsEmpty, Taken as TakenSo}
 use Rattle.vub_queue.proofs.Walks.{takes_some}
 use Rattle.vub_model.specs.declared.cause.Why.TheVariants as why
 use Rattle.vub_model.specs.declared.cause.StopCause.TheVariants.{Exit}
-use Rattle.vub_proto.specs.declared.device_said.DeviceSaid.{DeviceSaid}
-use Rattle.vub_proto.specs.declared.device_said.DeviceSaid.TheVariants as outcome
 use Rattle.vub_model.specs.declared.entry.Entry.{Entry}
-use Rattle.vub_model.specs.declared.play.Play.{Play}
-use Rattle.vub_model.specs.declared.play.Play.TheVariants as play
-use Rattle.vub_model.specs.declared.phase.Phase.{Phase}
-use Rattle.vub_model.specs.declared.phase.Phase.TheVariants.{Idle, Polled, Sweep, Heard, Serving, Taken, Served, Stopped}
+use Rattle.vub_model.specs.declared.phase.Phase.TheVariants.{Idle, Polled, Sweep, Heard, Serving, Taken, Stopped}
 use Rattle.vub_model.specs.declared.ring_op.RingOp.TheVariants as op
-use Rattle.vub_model.specs.RingRecord.{Vring, is_on, has_addresses, is_in_flight, limit, changed}
+use Rattle.vub_model.specs.RingRecord.{Vring, is_on, changed}
 use Rattle.vub_model.specs.Shared.{Shared, ring_at, with_ring, count_at, counter_read}
 use Rattle.vub_model.specs.Wiring.{Wiring, opened_at, queues_of, IsPlaced}
-use Rattle.vub_model.specs.Work.{Local, MayWork, serving, stopped, is_object, after_kick, after_bell, after_event, after_heard, has_token, may_take, looked, entry_of, after_none, after_took, after_take, put_said, why_of, used, called, after_put, after_said}
+use Rattle.vub_model.specs.Work.{Local, serving, stopped, is_object, after_kick, after_bell, after_event, has_token, may_take, looked, entry_of, after_none, after_take, put_said, why_of, used, called, after_put, after_said}
 use Rattle.vub_model.specs.Schedule.{PhaseFits}
 use Rattle.vub_model.proofs.Places.{slot, few-queues}
 use Rattle.vub_model.proofs.Cases.{take-leaf as look-leaf, said-cases}
 use Rattle.vub_model.proofs.Live.{Live, live-parts, live-from, looked-live, live-taken}
-use Rattle.vub_model.specs.declared.cause.Why.{Why}
 
 -- what an op leaves that fits and does not wait
 abbrev pub taken-ring : Vring → Vring

@@ -29,6 +29,7 @@ label_of play.Take = label.Take
 label_of play.Serve = label.Serve
 label_of play.Put = label.Put
 
+-- one call of the device, and what it answered
 pub record Call : Type 0 where
   pub op : DeviceOp
   pub outcome : DeviceSaid

@@ -1,4 +1,4 @@
--- A worker's steps: which label it may play in a phase, and what the step makes of what is held and of the phase.
+-- A worker's steps: which play it may make in a phase, and what the step makes of what is held and of the phase.
 use Rattle.std.specs.Prelude.{◌≡◌, ℕ, Bool, true, false, ◌&&◌, ◌==◌, not, nat_lt, if◌then◌else◌, List, [], ◌∷◌, length}
 use Rattle.std.specs.Prelude.{slice_index, Option, Some, None, is_some, map, filter, Result, Ok, Err}
 use Rattle.vub_mem.specs.Memory.{Guest}

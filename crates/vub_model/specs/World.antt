@@ -1,4 +1,4 @@
--- The state of the machine with what a run records, which label a party may play, and what is after it.
+-- The state of the machine with what a run records, which play a party may make, and what is after it.
 use Rattle.std.specs.Prelude.{◌≢◌, ℕ, ◌+◌, Bool, nat_le, length, List, [], ◌∷◌, ◌++◌, slice_index_or, slice_set, Result}
 use Rattle.std.specs.Prelude.{Ok, Err}
 use Rattle.vub_mem.specs.Memory as memory
@@ -115,7 +115,7 @@ after_control w s said =
 
 -- May and After
 
--- the label may be played by this party now
+-- the party may make this play now
 abbrev pub May : {V : Type 0} → World V → Party → Play → Type 0
 May w party.Guest play.Guest = w.guest ≢ []
 May w party.Control (play.Control s said) = MayControl w.shared w.control.plan.steps s said

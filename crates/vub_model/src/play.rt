@@ -1,7 +1,7 @@
 use crate::small::Small;
 use vub_proto::DeviceSaid;
 
-/// A label with what a device call of that step answered.
+/// What a party did in its turn, as `Label` says it, with what the device answered where the step calls it.
 #[derive(Debug, Drop)]
 pub enum Play {
     Pass,
