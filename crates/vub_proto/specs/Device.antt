@@ -18,8 +18,10 @@ done_by result = said_by (λ done. outcome.Done) result
 
 -- A device that tells its value says what it means to say, and has the value that it means to have. One that tells none
 -- says and leaves anything.
-abbrev pub Answers : {D : Type 0} → (D → DeviceOp → DeviceSaid) → (D → DeviceOp → D) → DeviceOp → DeviceSaid → Option D → Option D → Type 0
-Answers said moved op outcome old new = Told old new (λ before now. (outcome ≡ said before op) × (now ≡ moved before op))
+abbrev pub Answers : {D : Type 0} → (D → DeviceOp → DeviceSaid) → (D → DeviceOp → D)
+    → DeviceOp → DeviceSaid → Option D → Option D → Type 0
+Answers said moved op answer old new =
+    Told old new (λ before now. (answer ≡ said before op) × (now ≡ moved before op))
 
 -- the count of refused calls never falls, and a call is refused only where it rose
 pub record CountsRefusals {T : Type 0} (before now : ℕ) (result : Result T Refused) : Type 0 where
@@ -27,7 +29,8 @@ pub record CountsRefusals {T : Type 0} (before now : ℕ) (result : Result T Ref
   pub refused : OnErr result (Rose before now)
 
 -- the constants of a device, each as a function of it, are what they were
-pub record AreConstant {D : Type 0} (queue_count greatest_size offered protocol_offered : D → ℕ) (masks : D → List ℕ) (exit_of : D → ℕ → Option ℕ) (old new : D) : Type 0 where
+pub record AreConstant {D : Type 0} (queue_count greatest_size offered protocol_offered : D → ℕ)
+    (masks : D → List ℕ) (exit_of : D → ℕ → Option ℕ) (old new : D) : Type 0 where
   pub queues : queue_count new ≡ queue_count old
   pub max : greatest_size new ≡ greatest_size old
   pub features : offered new ≡ offered old

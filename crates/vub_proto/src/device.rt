@@ -11,10 +11,10 @@ use vub_mem::Region;
 
 /// The device behind a vhost-user daemon (`VhostUserBackendMut` of the Rust crate `vhost-user-backend`).
 ///
-/// A lawful device is one that meets these clauses, which every implementation is proved to. Its constants never change.
-/// A call that it refuses raises its count of refusals, unless that stands at `u64::MAX`. A device may tell its value:
-/// then each call says what the device means to say at this value, and leaves the value that it means to leave; only want
-/// of memory leaves the value as it was.
+/// A lawful device is one that meets these clauses, which every implementation is proved to. Its constants never
+/// change. A call that it refuses raises its count of refusals, unless that stands at `u64::MAX`. A device may tell its
+/// value: then each call says what the device means to say at this value, and leaves the value that it means to leave;
+/// only want of memory leaves the value as it was.
 pub trait VhostUserBackendMut: Drop {
     // the device's constants
     ghost queue_count: { Self → ℕ };
@@ -75,7 +75,8 @@ pub trait VhostUserBackendMut: Drop {
 
     /// The driver has acknowledged these virtio feature bits.
     fn acked_features(&mut self, features: u64)
-        ensures told { Answers said moved (DeviceOp.AckedFeatures features) DeviceSaid.Done (value self.old) (value self.new) }
+        ensures told { Answers said moved (DeviceOp.AckedFeatures features) DeviceSaid.Done
+            (value self.old) (value self.new) }
         ensures count { refusal_count self.old ≤ refusal_count self.new }
         ensures same { AreConstant queue_count greatest_size offered protocol_offered masks exit_of self.old self.new };
 
@@ -87,13 +88,15 @@ pub trait VhostUserBackendMut: Drop {
 
     /// Notifications go by index from now on, or no longer (`VIRTIO_F_EVENT_IDX`).
     fn set_event_idx(&mut self, enabled: bool)
-        ensures told { Answers said moved (DeviceOp.SetEventIdx enabled) DeviceSaid.Done (value self.old) (value self.new) }
+        ensures told { Answers said moved (DeviceOp.SetEventIdx enabled) DeviceSaid.Done
+            (value self.old) (value self.new) }
         ensures count { refusal_count self.old ≤ refusal_count self.new }
         ensures same { AreConstant queue_count greatest_size offered protocol_offered masks exit_of self.old self.new };
 
     /// The device sends requests of its own over this object (`VHOST_USER_SET_BACKEND_REQ_FD`).
     fn set_backend_req_fd(&mut self, backend: Backend)
-        ensures told { Answers said moved (DeviceOp.SetBackendReqFd backend) DeviceSaid.Done (value self.old) (value self.new) }
+        ensures told { Answers said moved (DeviceOp.SetBackendReqFd backend) DeviceSaid.Done
+            (value self.old) (value self.new) }
         ensures count { refusal_count self.old ≤ refusal_count self.new }
         ensures same { AreConstant queue_count greatest_size offered protocol_offered masks exit_of self.old self.new };
 
@@ -103,8 +106,8 @@ pub trait VhostUserBackendMut: Drop {
     /// # Errors
     /// Want of memory leaves the device's value as it was.
     fn get_config(&mut self, alloc: Global, offset: u32, size: u32) -> Result<Bytes, OutOfMemory>
-        ensures told { IfOk result (λ bytes. Answers said moved (DeviceOp.GetConfig offset size) (DeviceSaid.Content bytes)
-            (value self.old) (value self.new)) }
+        ensures told { IfOk result (λ bytes. Answers said moved (DeviceOp.GetConfig offset size)
+            (DeviceSaid.Content bytes) (value self.old) (value self.new)) }
         ensures err { OnErr result (value self.new ≡ value self.old) }
         ensures count { refusal_count self.old ≤ refusal_count self.new }
         ensures same { AreConstant queue_count greatest_size offered protocol_offered masks exit_of self.old self.new };
@@ -154,8 +157,8 @@ pub trait VhostUserBackendMut: Drop {
     /// # Errors
     /// The device's own refusal.
     fn get_shared_object(&mut self, uuid: u128) -> Result<u32, Refused>
-        ensures told { Answers said moved (DeviceOp.GetSharedObject uuid) (said_by (λ object. DeviceSaid.Object (Some object)) result)
-            (value self.old) (value self.new) }
+        ensures told { Answers said moved (DeviceOp.GetSharedObject uuid)
+            (said_by (λ object. DeviceSaid.Object (Some object)) result) (value self.old) (value self.new) }
         ensures count { CountsRefusals (refusal_count self.old) (refusal_count self.new) result }
         ensures same { AreConstant queue_count greatest_size offered protocol_offered masks exit_of self.old self.new };
 
@@ -169,8 +172,9 @@ pub trait VhostUserBackendMut: Drop {
         ensures count { CountsRefusals (refusal_count self.old) (refusal_count self.new) result }
         ensures same { AreConstant queue_count greatest_size offered protocol_offered masks exit_of self.old self.new };
 
-    /// The device's state is saved to this object (direction 0) or loaded from it (direction 1), in this phase of a migration
-    /// (`VHOST_USER_SET_DEVICE_STATE_FD`). The answer is another object to be used in its place, if there is one.
+    /// The device's state is saved to this object (direction 0) or loaded from it (direction 1), in this phase of a
+    /// migration (`VHOST_USER_SET_DEVICE_STATE_FD`). The answer is another object to be used in its place, if there is
+    /// one.
     ///
     /// # Errors
     /// The device's own refusal.
@@ -180,8 +184,8 @@ pub trait VhostUserBackendMut: Drop {
         phase: u32,
         object: u32,
     ) -> Result<Option<u32>, Refused>
-        ensures told { Answers said moved (DeviceOp.SetDeviceStateFd direction phase object) (said_by (λ other. DeviceSaid.Object other) result)
-            (value self.old) (value self.new) }
+        ensures told { Answers said moved (DeviceOp.SetDeviceStateFd direction phase object)
+            (said_by (λ other. DeviceSaid.Object other) result) (value self.old) (value self.new) }
         ensures count { CountsRefusals (refusal_count self.old) (refusal_count self.new) result }
         ensures same { AreConstant queue_count greatest_size offered protocol_offered masks exit_of self.old self.new };
 

@@ -6,7 +6,8 @@ use Rattle.vub_ring.specs.declared.ops.PartsError.{PartsError}
 use Rattle.vub_ring.specs.declared.ops.PartsError.TheVariants.{Fault}
 
 -- the counts before and now; `Sound` and `StillSound` say that there was and is no call to fail
-pub record CountsFaults {T : Type 0} (before now : ℕ) (Sound StillSound : Type 0) (result : Result T PartsError) : Type 0 where
+pub record CountsFaults {T : Type 0} (before now : ℕ) (Sound StillSound : Type 0) (result : Result T PartsError)
+    : Type 0 where
   pub cause : HasCause before now result Fault
   pub still : Sound → StillSound
   pub sound : Sound → ¬ (IsErrOf result Fault)

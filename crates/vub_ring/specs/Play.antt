@@ -39,7 +39,8 @@ use Rattle.vub_ring.specs.declared.ops.PartsError.{PartsError}
 
 -- The host's table, where it is told: a call that was made leaves what the relation says, and one that was not leaves it
 -- as it was.
-abbrev pub OnTable : {S : Type 0} → Result S PartsError → Option HostTable → Option HostTable → (S → HostTable → HostTable → Type 0) → Type 0
+abbrev pub OnTable : {S : Type 0} → Result S PartsError → Option HostTable → Option HostTable
+    → (S → HostTable → HostTable → Type 0) → Type 0
 OnTable (Ok s) old new R = Told old new (R s)
 OnTable (Err e) old new R = Told old new (λ a b. b ≡ a)
 
@@ -71,7 +72,8 @@ table_marks rs r said = []
 
 abbrev pub TakePlays : TableRingSaid → Vring → Guest → Vring → Guest → Type 0
 TakePlays (table_said.Taken epoch number c) r g ring guest =
-    (found g r ≡ took.Entry c) × (epoch ≡ r.epoch) × (number ≡ next_number r) × (ring ≡ ring_after r op.Taken) × (guest ≡ g)
+    (found g r ≡ took.Entry c) × (epoch ≡ r.epoch) × (number ≡ next_number r) × (ring ≡ ring_after r op.Taken)
+    × (guest ≡ g)
 TakePlays table_said.Nothing r g ring guest = (found g r ≡ took.None) × (ring ≡ r) × (guest ≡ guest_none g r)
 TakePlays (table_said.Damaged d) r g ring guest = (found g r ≡ took.Damaged d) × (ring ≡ r) × (guest ≡ g)
 TakePlays said r g ring guest = ⊥
@@ -81,7 +83,8 @@ TakePlays said r g ring guest = ⊥
 -- an entry in flight lets it wait; else it says whether the used index can be read
 abbrev pub info_said : Vring → Guest → ℕ → TableRingSaid
 info_said r g used =
-    if is_in_flight r.flight then table_said.Waits else (if used_index_covers g used then table_said.Done else table_said.Outside)
+    if is_in_flight r.flight then table_said.Waits
+    else (if used_index_covers g used then table_said.Done else table_said.Outside)
 
 abbrev pub info_after : Vring → Guest → ℕ → ℕ → ℕ → Vring
 info_after r g desc avail used = ring_after r (op.SetInfo desc avail used (next_used_at g used))
@@ -116,7 +119,8 @@ put_found g r c reply =
 
 abbrev pub PutPlays : Chain → List ℕ → PutSaid → Vring → Guest → Vring → Guest → Type 0
 PutPlays c reply put_said.Done r g ring guest =
-    (wanted : Bool) × (put_found g r c reply ≡ Ok wanted) × (ring ≡ ring_after r op.Put) × (guest ≡ put_guest g r.queue c reply)
+    (wanted : Bool) × (put_found g r c reply ≡ Ok wanted) × (ring ≡ ring_after r op.Put)
+    × (guest ≡ put_guest g r.queue c reply)
 PutPlays c reply (put_said.Held fault) r g ring guest =
     (put_found g r c reply ≡ Err fault) × (ring ≡ ring_after r op.Hold) × (guest ≡ g)
 
@@ -136,7 +140,8 @@ table_wanted call true table = table_called call table
 
 -- the same, or nothing where the host failed at the signal, which is passed over
 abbrev pub CallsIf : ℕ → ℕ → Option ℕ → Bool → HostTable → HostTable → Type 0
-CallsIf before now call wanted old new = (new ≡ table_wanted call wanted old) ⊎ (Rose before now × (wanted ≡ true) × (new ≡ old))
+CallsIf before now call wanted old new = (new ≡ table_wanted call wanted old)
+    ⊎ (Rose before now × (wanted ≡ true) × (new ≡ old))
 
 abbrev pub table_put : Option ℕ → Result Bool PutFault → HostTable → HostTable
 table_put call (Ok wanted) table = table_wanted call wanted table

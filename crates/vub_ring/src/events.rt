@@ -27,7 +27,8 @@ fn settle<T: Drop>(answer: Result<T, HostError>) -> Result<(), HostError>
 #[tactic(auto, using(crate::proofs::Settling::told_signals, crate::proofs::Settling::counts_settled, crate::proofs::Settling::refuses_settled))]
 pub(crate) fn raise<H: Host>(host: &mut H, object: u32) -> Result<(), HostError>
     ensures table { Told (H.held host.old) (H.held host.new) (RaisesEvent object result) }
-    ensures faults { CountsFaults (H.fault_count host.old) (H.fault_count host.new) (H.never_fails host.old) (H.never_fails host.new) result }
+    ensures faults { CountsFaults (H.fault_count host.old) (H.fault_count host.new) (H.never_fails host.old)
+        (H.never_fails host.new) result }
     ensures refusals { RefusesBy result (HostError.Failed ∷ HostError.EINVAL ∷ HostError.EBADF ∷ []) }
 {
     settle(host.signal(object, 1))
@@ -40,7 +41,8 @@ pub(crate) fn raise<H: Host>(host: &mut H, object: u32) -> Result<(), HostError>
 #[tactic(auto, using(crate::proofs::Settling::told_reads, crate::proofs::Settling::counts_settled, crate::proofs::Settling::refuses_settled))]
 pub(crate) fn read<H: Host>(host: &mut H, object: u32) -> Result<(), HostError>
     ensures table { Told (H.held host.old) (H.held host.new) (ReadsEvent object result) }
-    ensures faults { CountsFaults (H.fault_count host.old) (H.fault_count host.new) (H.never_fails host.old) (H.never_fails host.new) result }
+    ensures faults { CountsFaults (H.fault_count host.old) (H.fault_count host.new) (H.never_fails host.old)
+        (H.never_fails host.new) result }
     ensures refusals { RefusesBy result (HostError.Failed ∷ HostError.EBADF ∷ []) }
     ensures wider { RefusesBy result (HostError.Failed ∷ HostError.EINVAL ∷ HostError.EBADF ∷ []) }
 {
@@ -64,7 +66,8 @@ fn unless_failed(answer: Result<(), HostError>) -> Result<(), PartsError>
 #[tactic(auto, using(crate::proofs::Settling::told_raised, crate::proofs::Settling::counts_unless_failed))]
 pub fn raise_anyway<H: Host>(host: &mut H, object: u32) -> Result<(), PartsError>
     ensures table { OnTable result (H.held host.old) (H.held host.new) (λ done old new. new ≡ table_raised old object) }
-    ensures faults { CountsPartsFaults (H.fault_count host.old) (H.fault_count host.new) (H.never_fails host.old) (H.never_fails host.new) result }
+    ensures faults { CountsPartsFaults (H.fault_count host.old) (H.fault_count host.new) (H.never_fails host.old)
+        (H.never_fails host.new) result }
     ensures only { ¬ (IsErrOf result PartsError.OutOfMemory) }
 {
     unless_failed(raise(host, object))
@@ -77,7 +80,8 @@ pub fn raise_anyway<H: Host>(host: &mut H, object: u32) -> Result<(), PartsError
 #[tactic(auto, using(crate::proofs::Settling::told_read, crate::proofs::Settling::counts_unless_failed))]
 pub(crate) fn read_anyway<H: Host>(host: &mut H, object: u32) -> Result<(), PartsError>
     ensures table { OnTable result (H.held host.old) (H.held host.new) (λ done old new. new ≡ table_read old object) }
-    ensures faults { CountsPartsFaults (H.fault_count host.old) (H.fault_count host.new) (H.never_fails host.old) (H.never_fails host.new) result }
+    ensures faults { CountsPartsFaults (H.fault_count host.old) (H.fault_count host.new) (H.never_fails host.old)
+        (H.never_fails host.new) result }
     ensures only { ¬ (IsErrOf result PartsError.OutOfMemory) }
 {
     unless_failed(read(host, object))

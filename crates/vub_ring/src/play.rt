@@ -39,7 +39,8 @@ fn take_with<L: DirtyLog, K: Ledger>(
     requires some { 0 < K.parts }
     ensures took { IfOk result (λ t. t ≡ took_of memory.old.guest queue.old) }
     ensures guest { IfOk result (λ t. memory.new.guest ≡ take_specs.guest_taken memory.old.guest queue.old t) }
-    ensures logs { IfOk result (λ t. MarksAll (page_marks L.byte_len L.marks) memory.old.logs (take_specs.marks_taken memory.old.guest.regions queue.old t) memory.new.logs) }
+    ensures logs { IfOk result (λ t. MarksAll (page_marks L.byte_len L.marks) memory.old.logs
+        (take_specs.marks_taken memory.old.guest.regions queue.old t) memory.new.logs) }
     ensures room { IfOk result take_specs.HasRoom }
     ensures err { OnErr result (memory.new ≡ memory.old) }
 {
@@ -56,7 +57,8 @@ fn take_uncounted<L: DirtyLog>(
     requires { IsSome queue.old.addresses }
     ensures took { IfOk result (λ t. t ≡ took_of memory.old.guest queue.old) }
     ensures guest { IfOk result (λ t. memory.new.guest ≡ take_specs.guest_taken memory.old.guest queue.old t) }
-    ensures logs { IfOk result (λ t. MarksAll (page_marks L.byte_len L.marks) memory.old.logs (take_specs.marks_taken memory.old.guest.regions queue.old t) memory.new.logs) }
+    ensures logs { IfOk result (λ t. MarksAll (page_marks L.byte_len L.marks) memory.old.logs
+        (take_specs.marks_taken memory.old.guest.regions queue.old t) memory.new.logs) }
     ensures room { IfOk result take_specs.HasRoom }
     ensures err { OnErr result (memory.new ≡ memory.old) }
 {
@@ -103,7 +105,8 @@ fn take_found<L: DirtyLog>(
 ) -> Result<Took, OutOfMemory>
     ensures took { IfOk result (λ t. t ≡ found memory.old.guest ring.now) }
     ensures guest { IfOk result (λ t. memory.new.guest ≡ guest_found memory.old.guest ring.now t) }
-    ensures logs { IfOk result (λ t. MarksAll (page_marks L.byte_len L.marks) memory.old.logs (marks_found memory.old.guest.regions ring.now t) memory.new.logs) }
+    ensures logs { IfOk result (λ t. MarksAll (page_marks L.byte_len L.marks) memory.old.logs
+        (marks_found memory.old.guest.regions ring.now t) memory.new.logs) }
     ensures room { IfOk result take_specs.HasRoom }
     ensures err { OnErr result (memory.new ≡ memory.old) }
 {
@@ -120,8 +123,10 @@ fn play_take<R: RingState, L: DirtyLog>(
     ring: &mut R,
     memory: &mut GuestMemory<L>,
 ) -> Result<TableRingSaid, OutOfMemory>
-    ensures row { IfOk result (λ said. TakePlays said (R.ring ring.old) memory.old.guest (R.ring ring.new) memory.new.guest) }
-    ensures logs { IfOk result (λ said. MarksAll (page_marks L.byte_len L.marks) memory.old.logs (table_marks memory.old.guest.regions (R.ring ring.old) said) memory.new.logs) }
+    ensures row { IfOk result (λ said. TakePlays said (R.ring ring.old) memory.old.guest (R.ring ring.new)
+        memory.new.guest) }
+    ensures logs { IfOk result (λ said. MarksAll (page_marks L.byte_len L.marks) memory.old.logs
+        (table_marks memory.old.guest.regions (R.ring ring.old) said) memory.new.logs) }
     ensures room { IfOk result HasRoom }
     ensures ring { OnErr result (R.ring ring.new ≡ R.ring ring.old) }
     ensures err { OnErr result (memory.new ≡ memory.old) }
@@ -206,8 +211,10 @@ pub fn play_table<R: RingState, L: DirtyLog>(
     memory: &mut GuestMemory<L>,
     op: TableRing,
 ) -> Result<TableRingSaid, PartsError>
-    ensures row { IfOk result (λ said. TablePlays op said (R.ring ring.old) memory.old.guest (R.ring ring.new) memory.new.guest) }
-    ensures logs { IfOk result (λ said. MarksAll (page_marks L.byte_len L.marks) memory.old.logs (table_marks memory.old.guest.regions (R.ring ring.old) said) memory.new.logs) }
+    ensures row { IfOk result (λ said. TablePlays op said (R.ring ring.old) memory.old.guest (R.ring ring.new)
+        memory.new.guest) }
+    ensures logs { IfOk result (λ said. MarksAll (page_marks L.byte_len L.marks) memory.old.logs
+        (table_marks memory.old.guest.regions (R.ring ring.old) said) memory.new.logs) }
     ensures room { IfOk result HasRoom }
     ensures ring { OnErr result (R.ring ring.new ≡ R.ring ring.old) }
     ensures err { OnErr result (memory.new ≡ memory.old) }
@@ -238,7 +245,8 @@ pub fn play_kick<R: RingState, H: Host>(
     ensures said { IfOk result (λ said. said ≡ kick_said (R.ring ring.old) object) }
     ensures ring { R.ring ring.new ≡ R.ring ring.old }
     ensures table { OnTable result (H.held host.old) (H.held host.new) (KickTable object) }
-    ensures faults { CountsFaults (H.fault_count host.old) (H.fault_count host.new) (H.never_fails host.old) (H.never_fails host.new) result }
+    ensures faults { CountsFaults (H.fault_count host.old) (H.fault_count host.new) (H.never_fails host.old)
+        (H.never_fails host.new) result }
     ensures only { ¬ (IsErrOf result PartsError.OutOfMemory) }
 {
     if !ring.state().is_kick(object) {
@@ -264,7 +272,8 @@ fn put_found<L: DirtyLog>(
     requires room { chain.now.room ≡ sum_by (λ s. s.len) chain.now.segments }
     ensures answer { result ≡ put_found memory.old.guest ring.now chain.now reply.now }
     ensures put { OnOk result (memory.new.guest ≡ put_guest memory.old.guest ring.now.queue chain.now reply.now) }
-    ensures logs { OnOk result (MarksAll (page_marks L.byte_len L.marks) memory.old.logs (put_marks memory.old.guest.regions ring.now.queue chain.now reply.now) memory.new.logs) }
+    ensures logs { OnOk result (MarksAll (page_marks L.byte_len L.marks) memory.old.logs
+        (put_marks memory.old.guest.regions ring.now.queue chain.now reply.now) memory.new.logs) }
     ensures err { OnErr result (memory.new ≡ memory.old) }
 {
     let mut queue = ring.get_queue().copy();
@@ -276,8 +285,10 @@ fn put_found<L: DirtyLog>(
 
 /// Signals the call of a ring, if it has one.
 fn call_now<R: RingState, H: Host>(ring: &R, host: &mut H) -> Result<(), PartsError>
-    ensures table { OnTable result (H.held host.old) (H.held host.new) (λ done old new. new ≡ table_called (R.ring ring.now).call old) }
-    ensures faults { CountsFaults (H.fault_count host.old) (H.fault_count host.new) (H.never_fails host.old) (H.never_fails host.new) result }
+    ensures table { OnTable result (H.held host.old) (H.held host.new)
+        (λ done old new. new ≡ table_called (R.ring ring.now).call old) }
+    ensures faults { CountsFaults (H.fault_count host.old) (H.fault_count host.new) (H.never_fails host.old)
+        (H.never_fails host.new) result }
     ensures only { ¬ (IsErrOf result PartsError.OutOfMemory) }
 {
     match ring.state().get_call() {
@@ -289,8 +300,10 @@ fn call_now<R: RingState, H: Host>(ring: &R, host: &mut H) -> Result<(), PartsEr
 /// Signals the call of a ring, if the driver wants it and there is one. A fault of the host is passed over.
 #[tactic(auto, using(crate::proofs::Settling::called_if, crate::proofs::Settling::called_sound))]
 fn call_if<R: RingState, H: Host>(ring: &R, host: &mut H, wanted: bool)
-    ensures table { Told (H.held host.old) (H.held host.new) (λ old new. CallsIf (H.fault_count host.old) (H.fault_count host.new) (R.ring ring.now).call wanted old new) }
-    ensures sound { H.never_fails host.old → Told (H.held host.old) (H.held host.new) (λ old new. new ≡ table_wanted (R.ring ring.now).call wanted old) }
+    ensures table { Told (H.held host.old) (H.held host.new)
+        (λ old new. CallsIf (H.fault_count host.old) (H.fault_count host.new) (R.ring ring.now).call wanted old new) }
+    ensures sound { H.never_fails host.old
+        → Told (H.held host.old) (H.held host.new) (λ old new. new ≡ table_wanted (R.ring ring.now).call wanted old) }
     ensures later { H.fault_count host.old ≤ H.fault_count host.new }
     ensures still { H.never_fails host.old → H.never_fails host.new }
 {
@@ -310,10 +323,17 @@ fn play_use<R: RingState, L: DirtyLog, H: Host>(
     requires spare { 0 < R.spare ring.old }
     requires fits { length reply.now ≤ entry.now.chain.room }
     requires room { entry.now.chain.room ≡ sum_by (λ s. s.len) entry.now.chain.segments }
-    ensures row { PutPlays entry.now.chain reply.now result (R.ring ring.old) memory.old.guest (R.ring ring.new) memory.new.guest }
-    ensures logs { MarksAll (page_marks L.byte_len L.marks) memory.old.logs (use_marks memory.old.guest.regions (R.ring ring.old) entry.now.chain reply.now result) memory.new.logs }
-    ensures table { Told (H.held host.old) (H.held host.new) (λ old new. PutTable (H.fault_count host.old) (H.fault_count host.new) (R.ring ring.old).call (put_found memory.old.guest (R.ring ring.old) entry.now.chain reply.now) old new) }
-    ensures sound { H.never_fails host.old → Told (H.held host.old) (H.held host.new) (λ old new. new ≡ table_put (R.ring ring.old).call (put_found memory.old.guest (R.ring ring.old) entry.now.chain reply.now) old) }
+    ensures row { PutPlays entry.now.chain reply.now result (R.ring ring.old) memory.old.guest (R.ring ring.new)
+        memory.new.guest }
+    ensures logs { MarksAll (page_marks L.byte_len L.marks) memory.old.logs
+        (use_marks memory.old.guest.regions (R.ring ring.old) entry.now.chain reply.now result) memory.new.logs }
+    ensures table { Told (H.held host.old) (H.held host.new)
+        (λ old new. PutTable (H.fault_count host.old) (H.fault_count host.new) (R.ring ring.old).call
+        (put_found memory.old.guest (R.ring ring.old) entry.now.chain reply.now) old new) }
+    ensures sound { H.never_fails host.old
+        → Told (H.held host.old) (H.held host.new)
+        (λ old new. new ≡ table_put (R.ring ring.old).call
+        (put_found memory.old.guest (R.ring ring.old) entry.now.chain reply.now) old) }
     ensures later { H.fault_count host.old ≤ H.fault_count host.new }
     ensures still { H.never_fails host.old → H.never_fails host.new }
 {
@@ -346,15 +366,23 @@ pub fn play_put<R: RingState, L: DirtyLog, H: Host>(
 ) -> Result<PutSaid, PartsError>
     requires fits { length reply.now ≤ entry.now.chain.room }
     requires room { entry.now.chain.room ≡ sum_by (λ s. s.len) entry.now.chain.segments }
-    ensures row { IfOk result (λ said. PutPlays entry.now.chain reply.now said (R.ring ring.old) memory.old.guest (R.ring ring.new) memory.new.guest) }
-    ensures logs { IfOk result (λ said. MarksAll (page_marks L.byte_len L.marks) memory.old.logs (use_marks memory.old.guest.regions (R.ring ring.old) entry.now.chain reply.now said) memory.new.logs) }
-    ensures table { OnTable result (H.held host.old) (H.held host.new) (λ said old new. PutTable (H.fault_count host.old) (H.fault_count host.new) (R.ring ring.old).call (put_found memory.old.guest (R.ring ring.old) entry.now.chain reply.now) old new) }
-    ensures sound { H.never_fails host.old → OnTable result (H.held host.old) (H.held host.new) (λ said old new. new ≡ table_put (R.ring ring.old).call (put_found memory.old.guest (R.ring ring.old) entry.now.chain reply.now) old) }
+    ensures row { IfOk result (λ said. PutPlays entry.now.chain reply.now said (R.ring ring.old) memory.old.guest
+        (R.ring ring.new) memory.new.guest) }
+    ensures logs { IfOk result (λ said. MarksAll (page_marks L.byte_len L.marks) memory.old.logs
+        (use_marks memory.old.guest.regions (R.ring ring.old) entry.now.chain reply.now said) memory.new.logs) }
+    ensures table { OnTable result (H.held host.old) (H.held host.new)
+        (λ said old new. PutTable (H.fault_count host.old) (H.fault_count host.new) (R.ring ring.old).call
+        (put_found memory.old.guest (R.ring ring.old) entry.now.chain reply.now) old new) }
+    ensures sound { H.never_fails host.old
+        → OnTable result (H.held host.old) (H.held host.new)
+        (λ said old new. new ≡ table_put (R.ring ring.old).call
+        (put_found memory.old.guest (R.ring ring.old) entry.now.chain reply.now) old) }
     ensures ring { OnErr result (R.ring ring.new ≡ R.ring ring.old) }
     ensures memory { OnErr result (memory.new ≡ memory.old) }
     ensures host { OnErr result (host.new ≡ host.old) }
     ensures only { ¬ (IsErrOf result PartsError.Fault) }
-    ensures faults { CountsFaults (H.fault_count host.old) (H.fault_count host.new) (H.never_fails host.old) (H.never_fails host.new) result }
+    ensures faults { CountsFaults (H.fault_count host.old) (H.fault_count host.new) (H.never_fails host.old)
+        (H.never_fails host.new) result }
 {
     if ring.reserve().is_err() {
         return Err(PartsError::OutOfMemory);

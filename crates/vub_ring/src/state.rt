@@ -102,7 +102,17 @@ impl VringState {
         call: Option<u32>,
         enabled: bool,
     ) -> VringState
-        ensures { result ≡ record { queue = queue; kick = kick; call = call; err = None; enabled = enabled; flight = Flight.None; epoch = 0; base = queue.next_avail; taken = 0 } }
+        ensures { result ≡ record {
+          queue = queue;
+          kick = kick;
+          call = call;
+          err = None;
+          enabled = enabled;
+          flight = Flight.None;
+          epoch = 0;
+          base = queue.next_avail;
+          taken = 0;
+        } }
     {
         let base = queue.next_avail();
         VringState {
@@ -193,7 +203,10 @@ impl VringState {
         used_ring: u64,
     ) -> Result<(), QueueError>
         ensures answer { result ≡ info_answer desc_table avail_ring used_ring }
-        ensures ok { OnOk result (self.new ≡ record self.old { queue = record self.old.queue { addresses = Some (record { desc = desc_table; avail = avail_ring; used = used_ring }) } }) }
+        ensures ok { OnOk result (self.new ≡ record self.old {
+          queue = record self.old.queue
+              { addresses = Some (record { desc = desc_table; avail = avail_ring; used = used_ring }) };
+        }) }
         ensures err { OnErr result (self.new ≡ self.old) }
     {
         self.queue.set_info(desc_table, avail_ring, used_ring)
@@ -268,7 +281,8 @@ impl VringState {
     /// `Outside` exactly where the word is not in guest memory.
     pub fn queue_used_idx<L: DirtyLog>(&self, memory: &GuestMemory<L>) -> Result<u16, QueueError>
         requires { IsSome self.now.queue.addresses }
-        ensures { result ≡ (if covers memory.now.guest.regions (used_index_at self.now.queue) 2 then Ok (number_at w16 memory.now.guest (used_index_at self.now.queue)) else Err QueueError.Outside) }
+        ensures { result ≡ (if covers memory.now.guest.regions (used_index_at self.now.queue) 2
+            then Ok (number_at w16 memory.now.guest (used_index_at self.now.queue)) else Err QueueError.Outside) }
     {
         self.queue.used_idx(memory)
     }
@@ -287,7 +301,8 @@ impl VringState {
         ensures answer { result ≡ add_answer memory.old.guest.regions self.old.queue head }
         ensures used { OnOk result (memory.new.guest ≡ write_used memory.old.guest self.old.queue head len) }
         ensures ring { OnOk result (self.new ≡ record self.old { queue = ring_used self.old.queue }) }
-        ensures logs { OnOk result (MarksAll (page_marks L.byte_len L.marks) memory.old.logs (used_marks memory.old.guest.regions self.old.queue) memory.new.logs) }
+        ensures logs { OnOk result (MarksAll (page_marks L.byte_len L.marks) memory.old.logs
+            (used_marks memory.old.guest.regions self.old.queue) memory.new.logs) }
         ensures memory { OnErr result (memory.new ≡ memory.old) }
         ensures same { OnErr result (self.new ≡ self.old) }
     {
@@ -303,9 +318,11 @@ impl VringState {
         memory: &mut GuestMemory<L>,
     ) -> Result<bool, QueueError>
         requires { IsSome self.old.queue.addresses }
-        ensures answer { result ≡ (if covers memory.old.guest.regions (asking_at self.old.queue) 2 then Ok (is_left memory.new.guest self.old.queue) else Err QueueError.Outside) }
+        ensures answer { result ≡ (if covers memory.old.guest.regions (asking_at self.old.queue) 2
+            then Ok (is_left memory.new.guest self.old.queue) else Err QueueError.Outside) }
         ensures guest { OnOk result (memory.new.guest ≡ guest_asking memory.old.guest self.old.queue) }
-        ensures logs { OnOk result (MarksAll (page_marks L.byte_len L.marks) memory.old.logs (marks_of memory.old.guest.regions (asking_at self.old.queue) 2) memory.new.logs) }
+        ensures logs { OnOk result (MarksAll (page_marks L.byte_len L.marks) memory.old.logs
+            (marks_of memory.old.guest.regions (asking_at self.old.queue) 2) memory.new.logs) }
         ensures ring { self.new ≡ self.old }
         ensures err { OnErr result (memory.new ≡ memory.old) }
     {
@@ -321,9 +338,12 @@ impl VringState {
         memory: &mut GuestMemory<L>,
     ) -> Result<(), QueueError>
         requires { IsSome self.old.queue.addresses }
-        ensures answer { result ≡ (if self.old.queue.event_idx || covers memory.old.guest.regions (used_flags_at self.old.queue) 2 then Ok tt else Err QueueError.Outside) }
+        ensures answer { result ≡ (if self.old.queue.event_idx || covers memory.old.guest.regions
+            (used_flags_at self.old.queue) 2 then Ok tt else Err QueueError.Outside) }
         ensures guest { OnOk result (memory.new.guest ≡ guest_declining memory.old.guest self.old.queue) }
-        ensures logs { OnOk result (MarksAll (page_marks L.byte_len L.marks) memory.old.logs (if self.old.queue.event_idx then [] else marks_of memory.old.guest.regions (used_flags_at self.old.queue) 2) memory.new.logs) }
+        ensures logs { OnOk result (MarksAll (page_marks L.byte_len L.marks) memory.old.logs
+            (if self.old.queue.event_idx then []
+            else marks_of memory.old.guest.regions (used_flags_at self.old.queue) 2) memory.new.logs) }
         ensures ring { self.new ≡ self.old }
         ensures err { OnErr result (memory.new ≡ memory.old) }
     {
@@ -352,7 +372,8 @@ impl VringState {
     /// `EBADF` where the host has no such event, `Failed` only where the host's count of faults rose; nothing changes.
     pub fn signal_used_queue<H: Host>(&self, host: &mut H) -> Result<(), HostError>
         ensures table { Told (H.held host.old) (H.held host.new) (SignalsCall self.now.call result) }
-        ensures faults { CountsFaults (H.fault_count host.old) (H.fault_count host.new) (H.never_fails host.old) (H.never_fails host.new) result }
+        ensures faults { CountsFaults (H.fault_count host.old) (H.fault_count host.new) (H.never_fails host.old)
+            (H.never_fails host.new) result }
         ensures refusals { RefusesBy result (HostError.Failed ∷ HostError.EINVAL ∷ HostError.EBADF ∷ []) }
         ensures none { self.now.call ≡ None → host.new ≡ host.old }
     {
@@ -368,7 +389,8 @@ impl VringState {
     /// `EBADF` where the host has no such event, `Failed` only where the host's count of faults rose; nothing changes.
     pub fn read_kick<H: Host>(&self, host: &mut H) -> Result<bool, HostError>
         ensures table { Told (H.held host.old) (H.held host.new) (ReadsKick self.now.kick self.now.enabled result) }
-        ensures faults { CountsFaults (H.fault_count host.old) (H.fault_count host.new) (H.never_fails host.old) (H.never_fails host.new) result }
+        ensures faults { CountsFaults (H.fault_count host.old) (H.fault_count host.new) (H.never_fails host.old)
+            (H.never_fails host.new) result }
         ensures refusals { RefusesBy result (HostError.Failed ∷ HostError.EBADF ∷ []) }
         ensures none { self.now.kick ≡ None → host.new ≡ host.old }
     {

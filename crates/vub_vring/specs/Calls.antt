@@ -55,17 +55,21 @@ Called (Err e) old new R = new ≡ old
 
 -- `ring`: the op is applied to the ring
 abbrev pub RingCall : {V : Type 0} → ℕ → RingOp → RingSaid → Shared V → Shared V → Type 0
-RingCall queue o s old new = (s ≡ ring_said (ring_at old queue) o) × (new ≡ with_ring old queue (ring_after (ring_at old queue) o))
+RingCall queue o s old new = (s ≡ ring_said (ring_at old queue) o)
+    × (new ≡ with_ring old queue (ring_after (ring_at old queue) o))
 
 -- `ring_table`, an Info: the ring gets these addresses, and the next used index that stands there
 abbrev pub InfoCall : {V : Type 0} → ℕ → ℕ → ℕ → ℕ → TableRingSaid → Shared V → Shared V → Type 0
 InfoCall queue desc avail used s old new =
-    (s ≡ info_said (ring_at old queue) old.guest used) × (new ≡ with_ring old queue (info_after (ring_at old queue) old.guest desc avail used))
+    (s ≡ info_said (ring_at old queue) old.guest used)
+    × (new ≡ with_ring old queue (info_after (ring_at old queue) old.guest desc avail used))
 
 -- `ring_table`, a Take: what the ring gives
 abbrev pub TakeCall : {V : Type 0} → ℕ → TableRingSaid → Shared V → Shared V → Type 0
 TakeCall queue (table_said.Taken epoch number c) old new =
-    (looked old queue ≡ took.Entry c) × (epoch ≡ (ring_at old queue).epoch) × (number ≡ next_number (ring_at old queue)) × (new ≡ with_ring old queue (ring_after (ring_at old queue) op.Taken))
+    (looked old queue ≡ took.Entry c) × (epoch ≡ (ring_at old queue).epoch)
+    × (number ≡ next_number (ring_at old queue))
+    × (new ≡ with_ring old queue (ring_after (ring_at old queue) op.Taken))
 TakeCall queue table_said.Nothing old new = (looked old queue ≡ took.None) × (new ≡ after_none old queue)
 TakeCall queue (table_said.Damaged d) old new = (looked old queue ≡ took.Damaged d) × (new ≡ old)
 TakeCall queue s old new = ⊥
@@ -78,14 +82,17 @@ TableRingCall queue (table_ring.Info desc avail used) s old new = InfoCall queue
 abbrev pub KickCall : {V : Type 0} → ℕ → ℕ → KickSaid → Shared V → Shared V → Type 0
 KickCall queue object Stale old new = (is_object (ring_at old queue).kick object ≡ false) × (new ≡ old)
 KickCall queue object Serve old new =
-    (is_object (ring_at old queue).kick object ≡ true) × (is_on (ring_at old queue) ≡ true) × (new ≡ counter_read old object)
+    (is_object (ring_at old queue).kick object ≡ true) × (is_on (ring_at old queue) ≡ true)
+    × (new ≡ counter_read old object)
 KickCall queue object Quiet old new =
-    (is_object (ring_at old queue).kick object ≡ true) × (is_on (ring_at old queue) ≡ false) × (new ≡ counter_read old object)
+    (is_object (ring_at old queue).kick object ≡ true) × (is_on (ring_at old queue) ≡ false)
+    × (new ≡ counter_read old object)
 
 -- `put`: the entry is used with the reply, and the call is signalled where the driver wants it; or it is held
 abbrev pub PutCall : {V : Type 0} → Entry → List ℕ → PutSaid → Shared V → Shared V → Type 0
 PutCall e reply put_answer.Done old new =
-    (wanted : Bool) × (put_said old e reply ≡ Ok wanted) × (new ≡ called (used old e reply) (ring_at old e.queue).call wanted)
+    (wanted : Bool) × (put_said old e reply ≡ Ok wanted)
+    × (new ≡ called (used old e reply) (ring_at old e.queue).call wanted)
 PutCall e reply (put_answer.Held fault) old new =
     (put_said old e reply ≡ Err fault) × (new ≡ with_ring old e.queue (ring_after (ring_at old e.queue) op.Hold))
 
@@ -102,13 +109,15 @@ PutTried Rise e reply s old new = PutCall e reply s old new ⊎ (Rise × PutUnca
 abbrev pub PendCall : {V : Type 0} → ℕ → PendOp → PendSaid → Shared V → Shared V → Type 0
 PendCall worker (pend.Insert n) pend_said.Done old new = new ≡ inserted old worker n
 PendCall worker (pend.Remove n) pend_said.Done old new = new ≡ removed old worker n
-PendCall worker pend.TakeAll (pend_said.All numbers) old new = (numbers ≡ pending_at old worker) × (new ≡ swept old worker)
+PendCall worker pend.TakeAll (pend_said.All numbers) old new =
+    (numbers ≡ pending_at old worker) × (new ≡ swept old worker)
 PendCall worker o s old new = ⊥
 
 -- `service`: the service is asked for the reply to the entry
 abbrev pub ServiceCall : {V : Type 0} → Meaning V → Entry → List ℕ → Shared V → Shared V → Type 0
 ServiceCall m e reply old new =
-    (reply ≡ m.reply_of old.service e.chain.request e.chain.room) × (new ≡ record old { service = m.after old.service e.chain.request e.chain.room })
+    (reply ≡ m.reply_of old.service e.chain.request e.chain.room)
+    × (new ≡ record old { service = m.after old.service e.chain.request e.chain.room })
 
 -- `host`: the call of this name on the host table
 abbrev pub HostTableCall : HostOp → HostSaid → HostTable → HostTable → Type 0
@@ -116,19 +125,28 @@ HostTableCall (host.CreateEvent flags) (said.Number n) old new = CreateEventCall
 HostTableCall (host.CreateEvent flags) (said.Refused e) old new = CreateEventCall flags (Err e) old new
 HostTableCall host.CreateList (said.Number n) old new = CreateListCall (Ok n) old new
 HostTableCall (host.Signal object value) said.Done old new = SignalCall {T = Unit {0}} object value (Ok tt) old new
-HostTableCall (host.Signal object value) (said.Refused e) old new = SignalCall {T = Unit {0}} object value (Err e) old new
+HostTableCall (host.Signal object value) (said.Refused e) old new =
+    SignalCall {T = Unit {0}} object value (Err e) old new
 HostTableCall (host.Consume object) (said.Count n) old new = ConsumeCall object (Ok n) old new
 HostTableCall (host.Consume object) (said.Refused e) old new = ConsumeCall object (Err e) old new
-HostTableCall (host.Add list object set token) said.Done old new = AddCall {T = Unit {0}} list (member_for object set token) (Ok tt) old new
-HostTableCall (host.Add list object set token) (said.Refused e) old new = AddCall {T = Unit {0}} list (member_for object set token) (Err e) old new
+HostTableCall (host.Add list object set token) said.Done old new =
+    AddCall {T = Unit {0}} list (member_for object set token) (Ok tt) old new
+HostTableCall (host.Add list object set token) (said.Refused e) old new =
+    AddCall {T = Unit {0}} list (member_for object set token) (Err e) old new
 HostTableCall (host.Delete list object) said.Done old new = DeleteCall {T = Unit {0}} list object (Ok tt) old new
 HostTableCall (host.Delete list object) (said.Refused e) old new = DeleteCall {T = Unit {0}} list object (Err e) old new
-HostTableCall (host.Listen list object token) said.Done old new = ListenCall {T = Unit {0}} list object token (Ok tt) old new
-HostTableCall (host.Listen list object token) (said.Refused e) old new = ListenCall {T = Unit {0}} list object token (Err e) old new
-HostTableCall (host.Unlisten list object above) said.Done old new = UnlistenCall {T = Unit {0}} list object above (Ok tt) old new
-HostTableCall (host.Unlisten list object above) (said.Refused e) old new = UnlistenCall {T = Unit {0}} list object above (Err e) old new
-HostTableCall (host.ConsumeAs list object token) (said.Member b) old new = ConsumeAsCall list object token (Ok b) old new
-HostTableCall (host.ConsumeAs list object token) (said.Refused e) old new = ConsumeAsCall list object token (Err e) old new
+HostTableCall (host.Listen list object token) said.Done old new =
+    ListenCall {T = Unit {0}} list object token (Ok tt) old new
+HostTableCall (host.Listen list object token) (said.Refused e) old new =
+    ListenCall {T = Unit {0}} list object token (Err e) old new
+HostTableCall (host.Unlisten list object above) said.Done old new =
+    UnlistenCall {T = Unit {0}} list object above (Ok tt) old new
+HostTableCall (host.Unlisten list object above) (said.Refused e) old new =
+    UnlistenCall {T = Unit {0}} list object above (Err e) old new
+HostTableCall (host.ConsumeAs list object token) (said.Member b) old new =
+    ConsumeAsCall list object token (Ok b) old new
+HostTableCall (host.ConsumeAs list object token) (said.Refused e) old new =
+    ConsumeAsCall list object token (Err e) old new
 HostTableCall (host.Ready list) (said.Ready found) old new = FirstReadyCall list (Ok found) old new
 HostTableCall (host.Ready list) (said.Refused e) old new = FirstReadyCall list (Err e) old new
 HostTableCall (host.Claim object queue) said.Done old new = ClaimCall {T = Unit {0}} object queue (Ok tt) old new
@@ -156,7 +174,8 @@ HostCall o s old new = HostTableCall o s old.table new.table × (new ≡ record 
 -- `table`: the table of guest memory is changed, and its regions are said; or memory refuses the change
 abbrev pub ChangesTable : TableOp → TableSaid → Guest → Guest → Type 0
 ChangesTable o (change.Regions regions) old new =
-    (table_refusal old o ≡ None) × (regions ≡ regions_after old.regions o) × (new ≡ record old { regions = regions_after old.regions o })
+    (table_refusal old o ≡ None) × (regions ≡ regions_after old.regions o)
+    × (new ≡ record old { regions = regions_after old.regions o })
 ChangesTable o (change.Memory e) old new = (table_refusal old o ≡ Some e) × (new ≡ old)
 
 abbrev pub TableCall : {V : Type 0} → TableOp → TableSaid → Shared V → Shared V → Type 0

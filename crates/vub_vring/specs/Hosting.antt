@@ -37,5 +37,6 @@ CountsOver h old new result =
     CountsFaults (h.fault_count old) (h.fault_count new) (h.never_fails old) (h.never_fails new) result
 
 -- what a call says, and leaves of the table that this host tells
-abbrev pub PlaysOver : {H T : Type 0} → Host H → H → H → Result T PartsError → (T → HostTable → HostTable → Type 0) → Type 0
+abbrev pub PlaysOver : {H T : Type 0} → Host H → H → H → Result T PartsError → (T → HostTable → HostTable → Type 0)
+    → Type 0
 PlaysOver h old new result R = OnTable result (h.held old) (h.held new) R

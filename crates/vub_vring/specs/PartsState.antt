@@ -30,11 +30,13 @@ HasFailed old new = Rose old.faults new.faults
 
 -- A call that was made says and leaves what the relation says, where what is shared is told. One that was not made changes
 -- nothing, told or not.
-abbrev pub IsCall : {V D S : Type 0} → PartsState V D → PartsState V D → Result S PartsError → (S → Shared V → Shared V → Type 0) → Type 0
+abbrev pub IsCall : {V D S : Type 0} → PartsState V D → PartsState V D → Result S PartsError
+    → (S → Shared V → Shared V → Type 0) → Type 0
 IsCall old new result R = Called result old.shared new.shared R
 
 -- the same of a call of the device, where its value is told
-abbrev pub IsDeviceCall : {V D S : Type 0} → PartsState V D → PartsState V D → Result S PartsError → (S → D → D → Type 0) → Type 0
+abbrev pub IsDeviceCall : {V D S : Type 0} → PartsState V D → PartsState V D → Result S PartsError
+    → (S → D → D → Type 0) → Type 0
 IsDeviceCall old new result R = Called result old.device new.device R
 
 -- where what is shared is told, it and what is shared after are in this relation

@@ -14,7 +14,13 @@ use Rattle.vub_vring.specs.declared.store.Store.{Store}
 use Rattle.vub_ring.specs.Play.{TablePlays, PutPlays, PendPlays}
 
 abbrev pub shared_of : {L V : Type 0} → Store L → V → Shared V
-shared_of s v = record { guest = s.memory.guest; rings = s.rings.items; table = s.host.table; pending = s.pending.items; service = v }
+shared_of s v = record {
+  guest = s.memory.guest;
+  rings = s.rings.items;
+  table = s.host.table;
+  pending = s.pending.items;
+  service = v;
+}
 
 -- the ring of a queue; one that is not there is closed
 abbrev pub ring_in : List Vring → ℕ → Vring

@@ -34,7 +34,8 @@ with_worker table queues w =
 
 abbrev pub Opens : {V : Type 0} → ℕ → Opened → Shared V → Shared V → Type 0
 Opens queues w old new =
-    HasExit old.table w.exit → (w.list ≡ length old.table.lists) × (w.bell ≡ length old.table.objects) × (new ≡ record old { table = with_worker old.table queues w })
+    HasExit old.table w.exit → (w.list ≡ length old.table.lists) × (w.bell ≡ length old.table.objects)
+    × (new ≡ record old { table = with_worker old.table queues w })
 
 -- the worker of this number, by the device's constants, where what is held is told
 abbrev pub OpensFor : {V : Type 0} → Constants → ℕ → Opened → Option (Shared V) → Option (Shared V) → Type 0
@@ -75,7 +76,8 @@ IsOpeningFault before now OutOfMemory = Unit {0}
 IsOpeningFault before now e = ⊥
 
 -- the count of the host's faults, over a host that may be sound
-pub record OpensBy {T : Type 0} (before now : ℕ) (Sound StillSound : Type 0) (result : Result T VringEpollError) : Type 0 where
+pub record OpensBy {T : Type 0} (before now : ℕ) (Sound StillSound : Type 0) (result : Result T VringEpollError)
+    : Type 0 where
   pub later : before ≤ now
   pub cause : IfErr result (IsOpeningFault before now)
   pub still : Sound → StillSound
@@ -112,7 +114,8 @@ Leaves queues exit RegisterExitEvent old new = new ≡ create_list_after old
 Leaves queues exit NewEventConsumerNotifier old new = new ≡ with_exit old queues exit
 Leaves queues exit RegisterVringEnabledEvent old new = new ≡ with_bell old queues exit
 Leaves queues exit OutOfMemory old new =
-    (new ≡ old) ⊎ ((new ≡ create_list_after old) ⊎ ((new ≡ with_exit old queues exit) ⊎ (new ≡ with_bell old queues exit)))
+    (new ≡ old) ⊎ ((new ≡ create_list_after old)
+    ⊎ ((new ≡ with_exit old queues exit) ⊎ (new ≡ with_bell old queues exit)))
 Leaves queues exit e old new = ⊥
 
 -- nothing else changes

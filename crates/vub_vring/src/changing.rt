@@ -38,7 +38,8 @@ fn filled(list: Vec<Region>, regions: &[Region]) -> Listed<Region>
 /// Changes the table.
 fn change<L: DirtyLog>(memory: &mut GuestMemory<L>, op: TableOp) -> Result<(), MemError>
     ensures ok { OnOk result (table_refusal memory.old.guest op ≡ None) }
-    ensures changed { OnOk result (memory.new ≡ record memory.old { guest = record memory.old.guest { regions = regions_after memory.old.guest.regions op } }) }
+    ensures changed { OnOk result (memory.new ≡ record memory.old
+        { guest = record memory.old.guest { regions = regions_after memory.old.guest.regions op } }) }
     ensures refused { IfErr result (λ e. (table_refusal memory.old.guest op ≡ Some e) ⊎ (e ≡ MemError.OutOfMemory)) }
     ensures err { OnErr result (memory.new ≡ memory.old) }
 {

@@ -49,7 +49,8 @@ fn exit_of(constants: &Constants, worker: u32) -> Option<u32>
 #[tactic(auto, using(crate::proofs::Working::told_list, crate::proofs::Working::opens_ok, crate::proofs::Working::opens_err, crate::proofs::Working::stops_by))]
 fn new_list<P: Parts>(alloc: Global, parts: &mut P) -> Result<u32, VringEpollError>
     ensures told { IfOk result (λ n. Tells (P.state parts.old) (P.state parts.new) (MakesList n)) }
-    ensures stops { IfErr result (Stops VringEpollError.EpollCreateFd (P.state parts.old).shared (P.state parts.new).shared) }
+    ensures stops { IfErr result (Stops VringEpollError.EpollCreateFd (P.state parts.old).shared
+        (P.state parts.new).shared) }
     ensures frame { KeepsOpening (P.state parts.old) (P.state parts.new) result }
 {
     match parts.host(alloc, HostOp::CreateList) {
@@ -62,7 +63,8 @@ fn new_list<P: Parts>(alloc: Global, parts: &mut P) -> Result<u32, VringEpollErr
 #[tactic(auto, using(crate::proofs::Working::told_bell, crate::proofs::Working::opens_ok, crate::proofs::Working::opens_err, crate::proofs::Working::stops_by))]
 fn new_bell<P: Parts>(alloc: Global, parts: &mut P) -> Result<u32, VringEpollError>
     ensures told { IfOk result (λ n. Tells (P.state parts.old) (P.state parts.new) (MakesBell n)) }
-    ensures stops { IfErr result (Stops VringEpollError.NewEventConsumerNotifier (P.state parts.old).shared (P.state parts.new).shared) }
+    ensures stops { IfErr result (Stops VringEpollError.NewEventConsumerNotifier (P.state parts.old).shared
+        (P.state parts.new).shared) }
     ensures frame { KeepsOpening (P.state parts.old) (P.state parts.new) result }
 {
     match parts.host(alloc, HostOp::CreateEvent(NONBLOCK)) {
@@ -81,7 +83,8 @@ fn join_exit<P: Parts>(
     token: u64,
 ) -> Result<(), VringEpollError>
     ensures told { IfOk result (λ done. Tells (P.state parts.old) (P.state parts.new) (JoinsExit list exit token)) }
-    ensures stops { IfErr result (Stops VringEpollError.RegisterExitEvent (P.state parts.old).shared (P.state parts.new).shared) }
+    ensures stops { IfErr result (Stops VringEpollError.RegisterExitEvent (P.state parts.old).shared
+        (P.state parts.new).shared) }
     ensures frame { KeepsOpening (P.state parts.old) (P.state parts.new) result }
 {
     match exit {
@@ -102,8 +105,10 @@ fn join_bell<P: Parts>(
     bell: u32,
     token: u64,
 ) -> Result<(), VringEpollError>
-    ensures told { IfOk result (λ done. Tells (P.state parts.old) (P.state parts.new) (Joins list (listed bell token))) }
-    ensures stops { IfErr result (Stops VringEpollError.RegisterVringEnabledEvent (P.state parts.old).shared (P.state parts.new).shared) }
+    ensures told { IfOk result (λ done. Tells (P.state parts.old) (P.state parts.new)
+        (Joins list (listed bell token))) }
+    ensures stops { IfErr result (Stops VringEpollError.RegisterVringEnabledEvent (P.state parts.old).shared
+        (P.state parts.new).shared) }
     ensures frame { KeepsOpening (P.state parts.old) (P.state parts.new) result }
 {
     match parts.host(alloc, HostOp::Add(list, bell, EventSet::IN, token)) {

@@ -17,9 +17,9 @@ use vub_ring::{KickSaid, PartsError, PendOp, PendSaid, PutSaid, TableRing, Table
 /// service. Each call is one hold of the parts that it touches, and one step of the machine.
 ///
 /// Parts may tell what they hold, and then each call says and leaves what its definition says. Told or not, a call that
-/// is not made changes nothing, a fault of the host comes only where its count rose, and so does a refusal of the device. A
-/// queue or a worker that is not there is as a closed ring, and as an empty pending set that stays empty. Parts that tell
-/// nothing do not answer that a change has to wait: they wait by themselves.
+/// is not made changes nothing, and a fault of the host or a refusal of the device comes only where its count rose. A
+/// queue or a worker that is not there is as a closed ring, and as an empty pending set that stays empty. Parts that
+/// tell nothing do not answer that a change has to wait: they wait by themselves.
 pub trait Parts {
     type Service: Service;
 
@@ -46,8 +46,8 @@ pub trait Parts {
         ensures only { ¬ (IsErrOf result PartsError.Fault) }
         ensures frame { Keeps (state self.old) (state self.new) result };
 
-    /// Sets the addresses of a ring, and the next used index that stands there; or takes the next entry of a ring that is
-    /// ready and enabled, has its addresses and no entry in flight.
+    /// Sets the addresses of a ring, and the next used index that stands there; or takes the next entry of a ring that
+    /// is ready and enabled, has its addresses and no entry in flight.
     ///
     /// # Errors
     /// Want of memory.
@@ -128,8 +128,8 @@ pub trait Parts {
         ensures only { ¬ (IsErrOf result PartsError.Fault) }
         ensures frame { Keeps (state self.old) (state self.new) result };
 
-    /// Waits until a member of this interest list is ready. Parts of one party alone do not wait, since no other makes it
-    /// ready.
+    /// Waits until a member of this interest list is ready. Parts of one party alone do not wait, since no other makes
+    /// it ready.
     fn wait_ready(&mut self, list: u32)
         ensures same { IsUntouched (state self.old) (state self.new) };
 

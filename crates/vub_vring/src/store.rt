@@ -5,7 +5,7 @@ ghost use Rattle.vub_model.specs.RingRecord.{closed_ring, ring_said, ring_after}
 ghost use Rattle.vub_ring.specs.Play.{HasRoom};
 ghost use Rattle.vub_vring.specs.Calls.{HostTableCall, IsSaid, takes_memory};
 ghost use Rattle.vub_ring.specs.Faults.{CountsFaults};
-ghost use Rattle.vub_ring.specs.Play.{OnTable, KickTable, kick_said, put_found, use_marks, PutTable, table_put, PendPlays, inserts};
+ghost use Rattle.vub_ring.specs.Play.{OnTable, KickTable, kick_said, put_found, table_marks, use_marks, PutTable, table_put, PendPlays, inserts};
 ghost use Rattle.vub_vring.specs.Hosting.{CountsOver, PlaysOver};
 ghost use Rattle.vub_vring.specs.Store.{ring_in, left_by, RingTableAt, ClosedPlays, PutsAt, PendsAt};
 
@@ -50,7 +50,8 @@ pub(crate) fn ring_at(
     op: RingOp,
 ) -> Result<RingSaid, PartsError>
     ensures said { IfOk result (λ said. said ≡ ring_said (ring_in rings.old.items queue) op) }
-    ensures rings { OnOk result (rings.new.items ≡ slice_set rings.old.items queue (ring_after (ring_in rings.old.items queue) op)) }
+    ensures rings { OnOk result (rings.new.items ≡ slice_set rings.old.items queue
+        (ring_after (ring_in rings.old.items queue) op)) }
     ensures err { OnErr result (rings.new.items ≡ rings.old.items) }
     ensures only { ¬ (IsErrOf result PartsError.Fault) }
 {
@@ -65,6 +66,7 @@ pub(crate) fn ring_at(
 pub fn closed_table_said<L: DirtyLog>(memory: &GuestMemory<L>, op: TableRing) -> TableRingSaid
     ensures row { ClosedPlays op result memory.now.guest }
     ensures room { HasRoom result }
+    ensures logs { table_marks memory.now.guest.regions closed_ring result ≡ [] }
 {
     match op {
         TableRing::Take => TableRingSaid::Nothing,
@@ -84,7 +86,10 @@ pub(crate) fn table_at<L: DirtyLog>(
     queue: u32,
     op: TableRing,
 ) -> Result<TableRingSaid, PartsError>
-    ensures row { IfOk result (λ said. RingTableAt queue op said rings.old.items memory.old.guest rings.new.items memory.new.guest) }
+    ensures row { IfOk result (λ said. RingTableAt queue op said rings.old.items memory.old.guest rings.new.items
+        memory.new.guest) }
+    ensures logs { IfOk result (λ said. MarksAll (page_marks L.byte_len L.marks) memory.old.logs
+        (table_marks memory.old.guest.regions (ring_in rings.old.items queue) said) memory.new.logs) }
     ensures room { IfOk result HasRoom }
     ensures rings { OnErr result (rings.new.items ≡ rings.old.items) }
     ensures err { OnErr result (memory.new ≡ memory.old) }
@@ -130,10 +135,19 @@ pub(crate) fn put_at<L: DirtyLog, H: Host>(
 ) -> Result<PutSaid, PartsError>
     requires fits { length reply.now ≤ entry.now.chain.room }
     requires room { entry.now.chain.room ≡ sum_by (λ s. s.len) entry.now.chain.segments }
-    ensures row { IfOk result (λ said. PutsAt entry.now.queue entry.now.chain reply.now said rings.old.items memory.old.guest rings.new.items memory.new.guest) }
-    ensures logs { IfOk result (λ said. MarksAll (page_marks L.byte_len L.marks) memory.old.logs (use_marks memory.old.guest.regions (ring_in rings.old.items entry.now.queue) entry.now.chain reply.now said) memory.new.logs) }
-    ensures table { OnTable result (H.held host.old) (H.held host.new) (λ said old new. PutTable (H.fault_count host.old) (H.fault_count host.new) (ring_in rings.old.items entry.now.queue).call (put_found memory.old.guest (ring_in rings.old.items entry.now.queue) entry.now.chain reply.now) old new) }
-    ensures sound { H.never_fails host.old → OnTable result (H.held host.old) (H.held host.new) (λ said old new. new ≡ table_put (ring_in rings.old.items entry.now.queue).call (put_found memory.old.guest (ring_in rings.old.items entry.now.queue) entry.now.chain reply.now) old) }
+    ensures row { IfOk result (λ said. PutsAt entry.now.queue entry.now.chain reply.now said rings.old.items
+        memory.old.guest rings.new.items memory.new.guest) }
+    ensures logs { IfOk result (λ said. MarksAll (page_marks L.byte_len L.marks) memory.old.logs
+        (use_marks memory.old.guest.regions (ring_in rings.old.items entry.now.queue) entry.now.chain reply.now said)
+        memory.new.logs) }
+    ensures table { OnTable result (H.held host.old) (H.held host.new)
+        (λ said old new. PutTable (H.fault_count host.old) (H.fault_count host.new)
+        (ring_in rings.old.items entry.now.queue).call
+        (put_found memory.old.guest (ring_in rings.old.items entry.now.queue) entry.now.chain reply.now) old new) }
+    ensures sound { H.never_fails host.old
+        → OnTable result (H.held host.old) (H.held host.new)
+        (λ said old new. new ≡ table_put (ring_in rings.old.items entry.now.queue).call
+        (put_found memory.old.guest (ring_in rings.old.items entry.now.queue) entry.now.chain reply.now) old) }
     ensures rings { OnErr result (rings.new.items ≡ rings.old.items) }
     ensures memory { OnErr result (memory.new ≡ memory.old) }
     ensures guest { OnErr result (memory.new.guest ≡ memory.old.guest) }
@@ -183,7 +197,8 @@ pub(crate) fn host_at(alloc: Global, host: &mut MemHost, op: HostOp) -> Result<H
     ensures table { OnTable result (Some host.old.table) (Some host.new.table) (HostTableCall op) }
     ensures said { IfOk result IsSaid }
     ensures memory { IsErrOf result PartsError.OutOfMemory → IsTrue (takes_memory op) }
-    ensures faults { CountsFaults host.old.plan.faults host.new.plan.faults (host.old.plan.calls.items ≡ []) (host.new.plan.calls.items ≡ []) result }
+    ensures faults { CountsFaults host.old.plan.faults host.new.plan.faults (host.old.plan.calls.items ≡ [])
+        (host.new.plan.calls.items ≡ []) result }
 {
     match op {
         HostOp::Ready(list) => ready(host.ready(list)),

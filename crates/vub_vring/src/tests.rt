@@ -1,14 +1,14 @@
 use crate::silent::SilentParts;
 use crate::{
     HostOp, HostSaid, KickSaid, OwnedParts, Parts, PartsError, PendOp, PendSaid, Pending, PutSaid,
-    Store, TableRing, TableRingSaid, VringState, open_worker,
+    Store, TableRing, TableRingSaid, TableSaid, VringState, open_worker,
 };
 use std::alloc::Global;
 use std::test::Fail;
 use vub_base::{Bytes, Listed, OutOfMemory};
 use vub_event::{EventSet, Host, HostError, MemHost, Member};
 use vub_mem::{GuestMemory, Region};
-use vub_model::{Constants, Entry, Guest, RingOp, RingSaid, VringEpollError};
+use vub_model::{Constants, Entry, Guest, RingOp, RingSaid, TableOp, VringEpollError};
 use vub_proto::{DeviceOp, DeviceSaid, FixedDevice, Service};
 use vub_queue::PutFault;
 
@@ -246,6 +246,37 @@ fn parts_call_the_device(rt: HostRuntime) -> Result<(), Fail> {
     let checked = parts.device(alloc, DeviceOp::CheckDeviceState)?;
     assert!(rt; matches!(checked, DeviceSaid::Refused(95)));
     assert_eq!(rt; parts.refusals(), 1);
+    Ok(())
+}
+
+#[test]
+fn parts_change_memory_and_addresses(rt: HostRuntime) -> Result<(), Fail> {
+    let alloc = rt.alloc();
+    let mut store = store_of(alloc)?;
+    let mut device = device_of(alloc);
+    let mut service = Echo { asked: 0 };
+    let constants = constants_of(alloc)?;
+    let mut parts = OwnedParts {
+        store: &mut store,
+        device: &mut device,
+        service: &mut service,
+        constants: &constants,
+    };
+    let info = TableRing::Info {
+        desc: DESC,
+        avail: AVAIL,
+        used: USED,
+    };
+    assert!(rt; matches!(parts.ring_table(alloc, 0, info)?, TableRingSaid::Done));
+    let remove = TableOp::Remove {
+        start: START,
+        len: 0x4000,
+    };
+    match parts.table(alloc, remove)? {
+        TableSaid::Regions(regions) => assert!(rt; regions.is_empty()),
+        TableSaid::Memory(_) => assert!(rt; false),
+    }
+    assert!(rt; matches!(parts.ring_table(alloc, 0, info)?, TableRingSaid::Outside));
     Ok(())
 }
 
