@@ -9,7 +9,7 @@ use Rattle.vub_model.specs.Wiring.{queues_of}
 use Rattle.vub_loop.specs.declared.handler.VringEpollHandler.{VringEpollHandler}
 use Rattle.vub_loop.specs.Handler.{IsHandler, phase_of, new_handler}
 use Rattle.vub_core.specs.Workers.{AreHandlers}
-use Rattle.vub_core.proofs.Placing.{opened_is}
+use Rattle.vub_open.proofs.Placing.{opened_is}
 
 module _ (k : Constants) (count : ℕ) where
   abbrev handler_of : ℕ → VringEpollHandler

@@ -26,7 +26,7 @@ use Rattle.vub_model.proofs.NoneLost.{none-lost}
 use Rattle.vub_model.proofs.Openings.{opening-is-fresh}
 use Rattle.vub_core.specs.Outcome.{IsPlayed, IsCutShort, IsRefused}
 use Rattle.vub_core.specs.Played.{HasPlayed, WasCutShort}
-use Rattle.vub_core.specs.Refused.{IsRefusal}
+use Rattle.vub_open.specs.Refused.{IsRefusal}
 
 -- the opening has the service that it is given
 

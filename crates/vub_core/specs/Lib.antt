@@ -1,14 +1,11 @@
-pub mod Asked
 pub mod Flags
 pub mod ForWiring
-pub mod Hosts
 pub mod Machine
-pub mod Opened
+pub mod Meanings
 pub mod Outcome
 pub mod Places
 pub mod Played
 pub mod Recorded
-pub mod Refused
 pub mod Rest
-pub mod Runs
+pub mod Spans
 pub mod Workers

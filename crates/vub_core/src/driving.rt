@@ -1,24 +1,24 @@
 ghost use Rattle.std.specs.Prelude.{◌≡◌, ◌<◌, ◌+◌, ◌^◌, length, IfOk, IfErr};
 ghost use Rattle.vub_model.specs.Opening.{opening, wiring_of};
 ghost use Rattle.vub_model.specs.ValidSetup.{IsValid};
-ghost use Rattle.vub_core.specs.Asked.{constants_by, meaning_by};
-ghost use Rattle.vub_core.specs.Hosts.{NeverFails};
+ghost use Rattle.vub_core.specs.Meanings.{meaning_by};
+ghost use Rattle.vub_open.specs.Asked.{constants_by};
+ghost use Rattle.vub_open.specs.Hosts.{NeverFails};
 ghost use Rattle.vub_core.specs.Machine.{world_of};
 ghost use Rattle.vub_core.specs.Outcome.{IsPlayed, IsRefused};
 ghost use Rattle.vub_core.specs.Workers.{AreHandlers};
 
-use crate::constants::read_constants;
 use crate::finish::finish;
 use crate::machine::Machine;
 use crate::opening::open;
 use crate::playing::play;
-use crate::testing::NO_MEMORY;
 use std::alloc::Global;
 use vub_model::{Constants, DriveFault, Run, Setup};
+use vub_open::{NO_MEMORY, read_constants};
 use vub_proto::{Service, VhostUserBackendMut};
 
 /// Turns are fewer than this: the labels of more would not fit into memory.
-const MOST_TURNS: usize = 1 << 60;
+const MAX_TURNS: usize = 1 << 60;
 
 /// Plays a schedule on a machine that was opened.
 fn play_opened<V: Service>(
@@ -39,7 +39,7 @@ fn play_opened<V: Service>(
     ensures refused { IfErr result
         (IsRefused (meaning_by V.Service) constants.now setup.now schedule.now service.old service.new) }
 {
-    if schedule.len() >= MOST_TURNS {
+    if schedule.len() >= MAX_TURNS {
         return Err(NO_MEMORY);
     }
     let mut machine = machine;

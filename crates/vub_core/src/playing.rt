@@ -1,9 +1,9 @@
 //! A schedule, one turn after the other.
 ghost use Rattle.std.specs.Prelude.{◌≡◌, ℕ, [], length, IfOk, OnOk, OnErr};
 ghost use Rattle.vub_model.specs.RunOf.{Turn, IsLeast, party_of};
-ghost use Rattle.vub_core.specs.Asked.{meaning_by};
+ghost use Rattle.vub_core.specs.Meanings.{meaning_by};
 ghost use Rattle.vub_core.specs.ForWiring.{ForWiring};
-ghost use Rattle.vub_core.specs.Hosts.{NeverFails};
+ghost use Rattle.vub_open.specs.Hosts.{NeverFails};
 ghost use Rattle.vub_core.specs.Machine.{world_of};
 ghost use Rattle.vub_core.specs.Played.{HasPlayed, WasCutShort};
 ghost use Rattle.vub_core.specs.Workers.{AreHandlers};

@@ -12,7 +12,7 @@ ghost use Rattle.vub_model.specs.RunOf.{IsAtRest};
 ghost use Rattle.vub_vring.specs.Store.{shared_of};
 ghost use Rattle.vub_loop.specs.Handler.{IsHandler, phase_of};
 ghost use Rattle.vub_loop.specs.Plays.{HasNoWork};
-ghost use Rattle.vub_core.specs.Hosts.{NeverFails};
+ghost use Rattle.vub_open.specs.Hosts.{NeverFails};
 ghost use Rattle.vub_core.specs.Machine.{world_of};
 ghost use Rattle.vub_core.specs.Rest.{has_report, rests_in};
 ghost use Rattle.vub_core.specs.Workers.{AreHandlers};

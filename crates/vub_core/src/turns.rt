@@ -10,7 +10,7 @@ ghost use Rattle.vub_vring.specs.Store.{shared_of};
 ghost use Rattle.vub_loop.specs.Finished.{finished_by};
 ghost use Rattle.vub_loop.specs.Handler.{IsHandler, SameWorker, phase_of};
 ghost use Rattle.vub_loop.specs.Plays.{Turns};
-ghost use Rattle.vub_core.specs.Hosts.{NeverFails};
+ghost use Rattle.vub_open.specs.Hosts.{NeverFails};
 ghost use Rattle.vub_core.specs.Machine.{world_of};
 ghost use Rattle.vub_core.specs.Workers.{AreHandlers};
 

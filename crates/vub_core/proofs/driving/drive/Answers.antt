@@ -2,7 +2,7 @@ use Rattle.std.proofs.Common.{rules, refl}
 use Rattle.vub_model.specs.Constants.{constants_of}
 use Rattle.vub_model.specs.Service.{meaning}
 use Rattle.vub_model.specs.ValidSetup.{fault_of}
-use Rattle.vub_core.specs.Refused.{IsRefusal}
+use Rattle.vub_open.specs.Refused.{IsRefusal}
 use Rattle.vub_core.proofs.Outcomes.{opening-service, none-played, opening-refused}
 use Rattle.vub_core.proofs.driving.drive.Goals as goal
 

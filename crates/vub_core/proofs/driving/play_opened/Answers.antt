@@ -12,8 +12,8 @@ use Rattle.vub_core.proofs.WorkerCount.{worker-count}
 use Rattle.vub_core.proofs.Outcomes.{opening-service, all-played, none-played, some-played, end-played}
 use Rattle.vub_core.proofs.driving.play_opened.Goals as goal
 
-pub returns-then-schedule-ge-MOST_TURNS-clause-refused : goal.returns-then-schedule-ge-MOST_TURNS-clause-refused
-returns-then-schedule-ge-MOST_TURNS-clause-refused g c =
+pub returns-then-schedule-ge-MAX_TURNS-clause-refused : goal.returns-then-schedule-ge-MAX_TURNS-clause-refused
+returns-then-schedule-ge-MAX_TURNS-clause-refused g c =
     none-played (meaning g.V.Service.reply_of g.V.Service.after) c.args.constants.now c.args.setup.now c.args.service.now c.args.schedule.now c.args.service.now refl (opening-service c.args.constants.now c.args.setup.now c.args.service.now)
 
 pub finish-requires-clause-workers : goal.finish-requires-clause-workers
@@ -51,7 +51,7 @@ returns-in-Ok-finish-clause-played g c =
     let played : G c.as_slice-guest.result.now = c.in-Ok.ensures.played w c.requires.workers in
     let S : List Object → List Guest → Type 0 = λ os gs. Shows os labels (world_of w gs c.play.new.machine c.play.new.service) c.in-Ok-finish.run' in
     let shows : S c.as_slice.result.now c.as_slice-guest.result.now = c.in-Ok-finish.ensures w (c.play.ensures.workers w c.requires.workers) in
-    let short : length turns < 2 ^ 63 = omega (arith, c.if-schedule-ge-MOST_TURNS.false) in
+    let short : length turns < 2 ^ 63 = omega (arith, c.if-schedule-ge-MAX_TURNS.false) in
     all-played m k s v turns labels (world_of w s.guest c.play.new.machine c.play.new.service) c.play.new.service c.in-Ok-finish.run' c.requires.valid short
     (subst O (world_for k s v c.args.machine c.requires.opened) (subst G guest played)) refl
     (subst (λ os. S os s.guest) objects (subst (λ gs. S c.as_slice.result.now gs) guest shows))
