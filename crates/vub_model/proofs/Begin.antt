@@ -72,29 +72,33 @@ module _ (g : Wiring) (q : ℕ) where
     release-block None now r e l f rest mine other at more = more f at refl
     release-block (Some o) now r e l f rest mine other at more =
         let none : (p : ℕ) → kick_at f p ≡ Some o → ⊥ = (λ p has.
-          let its = sym (at.linked.claimed p o has) ∙ mine o refl in
-          let own : p ≡ q = cc in
-          let P : ℕ → Type 0 = λ p. kick_at f p ≡ Some o in
-          other (sym (subst P own has) ∙ ap (λ (k : Known). k.kick) at.is)) in
+        let its = sym (at.linked.claimed p o has) ∙ mine o refl in
+        let own : p ≡ q = cc in
+        let P : ℕ → Type 0 = λ p. kick_at f p ≡ Some o in
+        other (sym (subst P own has) ∙ ap (λ (k : Known). k.kick) at.is)) in
         (none, λ _. more (frame_step g f (Release o)) (with-claims g reply q now r e l f (slice_set f.claims o None) at (linked-step g f at.wired at.linked (Release o) reply rest none refl) (wired-step g f at.wired at.linked (Release o))) refl)
 
     -- Set enabled, Update
     enabled-block : (b : Bool) (k : Known) (f : Frame) (rest : List Small) → At g q k.kick k.ready k.enabled (k.ready && k.enabled) f → ((z : Frame) → At g q k.kick k.ready b (k.ready && b) z → ((p : ℕ) → (p ≡ q → ⊥) → known_at z p ≡ known_at f p) → Safe g z reply rest) → Safe g f reply (Set q (op.SetEnabled b) ∷ (update_steps g q k.kick (k.ready && b) ++ rest))
     enabled-block b k f rest at more =
-        let fits = ok b k.enabled k.ready k.kick at in
-        ((at.within, fits), λ _. update-block g reply q (k.ready && b) k.kick k.ready b (k.ready && k.enabled) (frame_step g f (Set q (op.SetEnabled b))) rest
-          (set-flags g reply q (op.SetEnabled b) k.kick k.ready k.enabled (k.ready && k.enabled) k.ready b f fits refl at)
-          (λ z last claims known events. more z last (λ p other. ap (λ l. slice_index_or l p (known_of closed_ring)) known ∙ known-other g f at.wired at.linked q (known_after (known_at f q) (op.SetEnabled b)) at.within p other))) where
-      ok : (b e r : Bool) (kick : Option ℕ) → At g q kick r e (r && e) f → SetFits g f q (op.SetEnabled b)
-      ok false e r kick at = tt
-      ok true true r kick at = inl (ap (λ (k : Known). k.enabled) at.is)
-      ok true false r kick at = inr (quiet-is g reply q kick r false f (let P : Bool → Type 0 = λ l. At g q kick r false l f in subst P (and-false r) at))
+        let fits = ok b k.enabled k.ready k.kick at in (
+          (at.within, fits),
+          λ _. update-block g reply q (k.ready && b) k.kick k.ready b (k.ready && k.enabled) (frame_step g f (Set q (op.SetEnabled b))) rest
+              (set-flags g reply q (op.SetEnabled b) k.kick k.ready k.enabled (k.ready && k.enabled) k.ready b f fits refl at)
+              (λ z last claims known events. more z last (λ p other. ap (λ l. slice_index_or l p (known_of closed_ring)) known ∙ known-other g f at.wired at.linked q (known_after (known_at f q) (op.SetEnabled b)) at.within p other)),
+        ) where
+          ok : (b e r : Bool) (kick : Option ℕ) → At g q kick r e (r && e) f → SetFits g f q (op.SetEnabled b)
+          ok false e r kick at = tt
+          ok true true r kick at = inl (ap (λ (k : Known). k.enabled) at.is)
+          ok true false r kick at = inr (quiet-is g reply q kick r false f (let P : Bool → Type 0 = λ l. At g q kick r false l f in subst P (and-false r) at))
 
     disabled-block : (k : Known) (f : Frame) (rest : List Small) → At g q k.kick k.ready k.enabled (k.ready && k.enabled) f → ((z : Frame) → At g q k.kick k.ready false (k.ready && false) z → ((p : ℕ) → (p ≡ q → ⊥) → known_at z p ≡ known_at f p) → Safe g z reply rest) → Safe g f reply (Set q (op.SetEnabled false) ∷ (off_steps (place_of g q) k.kick ++ rest))
-    disabled-block k f rest at more =
-        ((at.within, tt), λ _. off-block g reply q k.kick (place_of g q) refl k.ready false (k.ready && k.enabled) (frame_step g f (Set q (op.SetEnabled false))) rest
+    disabled-block k f rest at more = (
+      (at.within, tt),
+      λ _. off-block g reply q k.kick (place_of g q) refl k.ready false (k.ready && k.enabled) (frame_step g f (Set q (op.SetEnabled false))) rest
           (set-flags g reply q (op.SetEnabled false) k.kick k.ready k.enabled (k.ready && k.enabled) k.ready false f tt refl at)
-          (λ z last claims known events. more z (let P : Bool → Type 0 = λ l. At g q k.kick k.ready false l z in subst P (sym (and-false k.ready)) last) (λ p other. ap (λ l. slice_index_or l p (known_of closed_ring)) known ∙ known-other g f at.wired at.linked q (known_after (known_at f q) (op.SetEnabled false)) at.within p other)))
+          (λ z last claims known events. more z (let P : Bool → Type 0 = λ l. At g q k.kick k.ready false l z in subst P (sym (and-false k.ready)) last) (λ p other. ap (λ l. slice_index_or l p (known_of closed_ring)) known ∙ known-other g f at.wired at.linked q (known_after (known_at f q) (op.SetEnabled false)) at.within p other)),
+    )
 
     -- a change that leaves kick and flags
     plain-block : (o : RingOp) (k : Known) (f : Frame) (rest : List Small) → SetFits g f q o → known_after k o ≡ k → At g q k.kick k.ready k.enabled (k.ready && k.enabled) f → ((z : Frame) → At g q k.kick k.ready k.enabled (k.ready && k.enabled) z → ((p : ℕ) → (p ≡ q → ⊥) → known_at z p ≡ known_at f p) → Safe g z reply rest) → Safe g f reply (Set q o ∷ rest)
@@ -126,40 +130,52 @@ module _ (g : Wiring) (q : ℕ) where
     middle false is f mine at =
         off-block g reply q kick (place_of g q) refl r e (r && e) f (Set q (op.SetKick new) ∷ (release_steps kick ++ ending)) at
         (λ z off claims known events.
-          let owned : (o : ℕ) → new ≡ Some o → claim_at z o ≡ Some q = λ o has. ap (λ c. slice_index_or c o None) claims ∙ mine o has in
-          let other = same-not kick new is in
-          let fits : SetFits g z q (op.SetKick new) = inr (quiet-is g reply q kick r e z off, owned) in
-          let kick_now : kick_at z q ≡ kick = ap (λ (k : Known). k.kick) off.is in
-          let next = set-kick g reply q new kick r e false false z fits (λ w n o placed has. unclaimed-other g z off.wired off.linked w o q (off.wired.placed q w n placed) (owned o has) (λ was. other (sym kick_now ∙ (was ∙ sym has)))) off in
-          ((off.within, fits), λ _. release-block reply kick new r e false (frame_step g z (Set q (op.SetKick new))) ending (λ o has. off.linked.claimed q o (kick_now ∙ has)) other next (λ y at same. end-safe false y at (λ _. refl))))
+        let owned : (o : ℕ) → new ≡ Some o → claim_at z o ≡ Some q = λ o has. ap (λ c. slice_index_or c o None) claims ∙ mine o has in
+        let other = same-not kick new is in
+        let fits : SetFits g z q (op.SetKick new) = inr (quiet-is g reply q kick r e z off, owned) in
+        let kick_now : kick_at z q ≡ kick = ap (λ (k : Known). k.kick) off.is in
+        let next = set-kick g reply q new kick r e false false z fits (λ w n o placed has. unclaimed-other g z off.wired off.linked w o q (off.wired.placed q w n placed) (owned o has) (λ was. other (sym kick_now ∙ (was ∙ sym has)))) off in
+        ((off.within, fits), λ _. release-block reply kick new r e false (frame_step g z (Set q (op.SetKick new))) ending (λ o has. off.linked.claimed q o (kick_now ∙ has)) other next (λ y at same. end-safe false y at (λ _. refl))))
 
   kick-safe : (a : Answer) (f : Frame) → Wired g f → Linked g f → Settled g f → q < g.queues → (new : Option ℕ) → RequestFits g f.events (request.SetVringKick q new) → Safe g f (says a) (kick_steps g q (known_at f q) new)
   kick-safe a f wired l settled within None fits =
       let k = known_at f q in
       middle a k.kick None k.ready k.enabled (same_event k.kick None) refl f (λ o has. absurd cc) (enter g (says a) q f wired l settled within k refl)
   kick-safe a f wired l settled within (Some o) fits =
-      let k = known_at f q in
-      ((settled, fits.0, fits.1), λ can.
-        let claimed = linked-step g f wired l (Claim o q) (says a) [] (settled, fits.0, fits.1) can in
-        middle a k.kick (Some o) k.ready k.enabled (same_event k.kick (Some o)) refl (frame_step g f (Claim o q))
-        (λ x has. let e : o ≡ x = cc in let P : ℕ → Type 0 = λ x. claim_at (frame_step g f (Claim o q)) x ≡ Some q in subst P e (get_or-set_same f.claims o (Some q) None (there-within g f wired o fits.0)))
-        (with-claims g (says a) q k.kick k.ready k.enabled (k.ready && k.enabled) f (slice_set f.claims o (Some q)) (enter g (says a) q f wired l settled within k refl) claimed (wired-step g f wired l (Claim o q))))
+      let k = known_at f q in (
+        (settled, fits.0, fits.1),
+        λ can.
+            let claimed = linked-step g f wired l (Claim o q) (says a) [] (settled, fits.0, fits.1) can in
+            middle a k.kick (Some o) k.ready k.enabled (same_event k.kick (Some o)) refl (frame_step g f (Claim o q))
+            (λ x has. let e : o ≡ x = cc in let P : ℕ → Type 0 = λ x. claim_at (frame_step g f (Claim o q)) x ≡ Some q in subst P e (get_or-set_same f.claims o (Some q) None (there-within g f wired o fits.0)))
+            (with-claims g (says a) q k.kick k.ready k.enabled (k.ready && k.enabled) f (slice_set f.claims o (Some q)) (enter g (says a) q f wired l settled within k refl) claimed (wired-step g f wired l (Claim o q))),
+      )
 
   -- get_vring_base
   stop-safe : (f : Frame) → Wired g f → Linked g f → Settled g f → q < g.queues → Safe g f (next_of q) (stop_steps g q (known_at f q))
   stop-safe f wired l settled within =
       let reply = next_of q in
       let k = known_at f q in
-      let at = enter g reply q f wired l settled within k refl in
-      ((within, tt), λ _. off-block g reply q k.kick (place_of g q) refl false k.enabled (k.ready && k.enabled) (frame_step g f (Set q (op.SetReady false))) (Device (device.StopVring q) ∷ Set q (op.SetKick None) ∷ Set q (op.SetCall None) ∷ (release_steps k.kick ++ Answering ∷ []))
-        (set-flags g reply q (op.SetReady false) k.kick k.ready k.enabled (k.ready && k.enabled) false k.enabled f tt refl at)
-        (λ z off claims known events.
-          let kick_now : kick_at z q ≡ k.kick = ap (λ (k : Known). k.kick) off.is in
-          let fits : SetFits g z q (op.SetKick None) = inr (quiet-is g reply q k.kick false k.enabled z off, (λ o has. absurd cc)) in
-          let next = set-kick g reply q None k.kick false k.enabled false false z fits (λ w n o placed has. absurd cc) off in
-          let last = set-flags g reply q (op.SetCall None) None false k.enabled false false k.enabled (frame_step g z (Set q (op.SetKick None))) tt refl next in
-          (leave g reply q k.kick false k.enabled z off, λ _. ((off.within, fits), λ _. ((off.within, tt), λ _.
-            ending k.kick k.enabled (frame_step g (frame_step g z (Set q (op.SetKick None))) (Set q (op.SetCall None))) (λ o has. off.linked.claimed q o (kick_now ∙ has)) last))))) where
+      let at = enter g reply q f wired l settled within k refl in (
+        (within, tt),
+        λ _. off-block g reply q k.kick (place_of g q) refl false k.enabled (k.ready && k.enabled) (frame_step g f (Set q (op.SetReady false))) (Device (device.StopVring q) ∷ Set q (op.SetKick None) ∷ Set q (op.SetCall None) ∷ (release_steps k.kick ++ Answering ∷ []))
+            (set-flags g reply q (op.SetReady false) k.kick k.ready k.enabled (k.ready && k.enabled) false k.enabled f tt refl at)
+            (λ z off claims known events.
+            let kick_now : kick_at z q ≡ k.kick = ap (λ (k : Known). k.kick) off.is in
+            let fits : SetFits g z q (op.SetKick None) = inr (quiet-is g reply q k.kick false k.enabled z off, (λ o has. absurd cc)) in
+            let next = set-kick g reply q None k.kick false k.enabled false false z fits (λ w n o placed has. absurd cc) off in
+            let last = set-flags g reply q (op.SetCall None) None false k.enabled false false k.enabled (frame_step g z (Set q (op.SetKick None))) tt refl next in (
+              leave g reply q k.kick false k.enabled z off,
+              λ _. (
+                (off.within, fits),
+                λ _. (
+                  (off.within, tt),
+                  λ _.
+                      ending k.kick k.enabled (frame_step g (frame_step g z (Set q (op.SetKick None))) (Set q (op.SetCall None))) (λ o has. off.linked.claimed q o (kick_now ∙ has)) last,
+                ),
+              ),
+            )),
+      ) where
         ending : (kick : Option ℕ) (e : Bool) (y : Frame) → ((o : ℕ) → kick ≡ Some o → claim_at y o ≡ Some q) → At g q None false e false y → Safe g y (next_of q) (release_steps kick ++ Answering ∷ [])
         ending None e y mine at = ((refl, ap (λ (k : Known). k.ready) at.is), λ _. leave g (next_of q) q None false e y at)
         ending (Some o) e y mine at = release-block (next_of q) (Some o) None false e false y (Answering ∷ []) mine (λ e. cc) at (λ x at same. ((refl, ap (λ (k : Known). k.ready) at.is), λ _. leave g (next_of q) q None false e x at))
@@ -174,10 +190,12 @@ module _ (g : Wiring) (q : ℕ) where
         by None r e z at = done-safe a None r e z at
         by (Some o) true e z at = done-safe a (Some o) true e z at
         by (Some o) false e z at =
-            let fits : SetFits g z q (op.SetReady true) = inr (quiet-is g (says a) q (Some o) false e z at) in
-            ((at.within, fits), λ _. update-block g (says a) q e (Some o) true e false (frame_step g z (Set q (op.SetReady true))) (Answering ∷ [])
-              (set-flags g (says a) q (op.SetReady true) (Some o) false e false true e z fits refl at)
-              (λ y last claims known events. done-safe a (Some o) true e y last))
+            let fits : SetFits g z q (op.SetReady true) = inr (quiet-is g (says a) q (Some o) false e z at) in (
+              (at.within, fits),
+              λ _. update-block g (says a) q e (Some o) true e false (frame_step g z (Set q (op.SetReady true))) (Answering ∷ [])
+                  (set-flags g (says a) q (op.SetReady true) (Some o) false e false true e z fits refl at)
+                  (λ y last claims known events. done-safe a (Some o) true e y last),
+            )
 
   enable-safe : (a : Answer) (f : Frame) → Wired g f → Linked g f → Settled g f → q < g.queues → (b : Bool) → Safe g f (says a) (enable_steps g q (known_at f q) b ++ Answering ∷ [])
   enable-safe a f wired l settled within b =
@@ -212,7 +230,8 @@ module _ (g : Wiring) (reply : Reply) (f : Frame) where
 
   good-next : (q : ℕ) (e : Bool) (z y : Frame) → Good g f z → At g q (kick_at f q) (known_at f q).ready e ((known_at f q).ready && e) y → ((p : ℕ) → (p ≡ q → ⊥) → known_at y p ≡ known_at z p) → Good g f y
   good-next q e z y good at others = record {
-    wired = at.wired; linked = at.linked;
+    wired = at.wired;
+    linked = at.linked;
     settled = leave g reply q (kick_at f q) (known_at f q).ready e y at;
     kicks = λ p. elim (cases_eq p q) [
       | inl same ↦ (let P : ℕ → Type 0 = λ p. kick_at y p ≡ kick_at f p in subst P (sym same) (ap (λ (k : Known). k.kick) at.is))

@@ -1,5 +1,5 @@
 -- A worked row: three requests from the opening, control alone: the features, the kick, and the queue enabled.
-use Rattle.std.proofs.Common.{pos, ◌≡◌, ℕ, zero, suc, Bool, true, false, List, [], ◌∷◌, Option, Some, None, refl}
+use Rattle.std.proofs.Common.{pos, ◌≡◌, ℕ, zero, suc, Bool, true, false, List, [], ◌∷◌, length, Option, Some, None, refl}
 use Rattle.vub_event.specs.HostTable.{members_at}
 use Rattle.vub_proto.specs.declared.answer.Answer.{Answer}
 use Rattle.vub_proto.specs.declared.answer.Answer.TheVariants as answer
@@ -10,15 +10,17 @@ use Rattle.vub_model.specs.declared.small.Small.TheVariants.{Device}
 use Rattle.vub_model.specs.Frame.{known_of}
 use Rattle.vub_model.specs.declared.constants.Constants.{Constants}
 use Rattle.vub_proto.specs.declared.device_said.DeviceSaid.TheVariants as outcome
+use Rattle.vub_proto.specs.declared.request.Request.{Request}
 use Rattle.vub_proto.specs.declared.request.Request.TheVariants as request
 use Rattle.vub_model.specs.declared.setup.Object.TheVariants as object
 use Rattle.vub_model.specs.declared.setup.Setup.{Setup}
 use Rattle.vub_model.specs.declared.small.Small.{Small}
-use Rattle.vub_model.specs.Shared.{count_at, ring_at}
+use Rattle.vub_model.specs.Shared.{Shared, count_at, ring_at}
 use Rattle.vub_model.specs.World.{World, after_control}
 use Rattle.vub_model.specs.Wiring.{place_of}
+use Rattle.vub_model.specs.Control.{begun}
 use Rattle.vub_model.specs.Plans.{plan_of}
-use Rattle.vub_model.specs.Opening.{opening, listed}
+use Rattle.vub_model.specs.Opening.{wiring_of, opening_held, new_control, opening, listed}
 use Rattle.vub_event.specs.HostCalls.{claim_after, release_after, add_after, delete_after}
 
 abbrev play-first : {V : Type 0} → World V → List Small → World V
@@ -38,15 +40,25 @@ setup = record {
   objects = object.Event 0 ∷ [];
   regions = [];
   rings = record { queue = 0; size = 8; info = None; base = 0; next_used = 0; kick = None; call = None; ready = false; enabled = false } ∷ [];
-  requests = request.SetFeatures 0x40000000 ∷ request.SetVringKick 0 (Some 0) ∷ request.SetVringEnable 0 true ∷ [];
   guest = [];
 }
+
+-- what is held at the opening
+abbrev held_in : Setup → Shared ℕ
+held_in given = opening_held constants given 0
+
+-- the opening, where control is asked these requests
+abbrev asked : Setup → List Request → World ℕ
+asked given requests =
+    record (opening constants given 0) {
+      control = begun (wiring_of constants (length given.objects)) (held_in given) (record (new_control given) { requests = requests });
+    }
 
 abbrev fifteen : List (Unit {0})
 fifteen = tt ∷ tt ∷ tt ∷ tt ∷ tt ∷ tt ∷ tt ∷ tt ∷ tt ∷ tt ∷ tt ∷ tt ∷ tt ∷ tt ∷ tt ∷ []
 
 abbrev start : World ℕ
-start = opening constants setup 0
+start = asked setup (request.SetFeatures 0x40000000 ∷ request.SetVringKick 0 (Some 0) ∷ request.SetVringEnable 0 true ∷ [])
 
 abbrev end : World ℕ
 end = play-on fifteen start
@@ -92,12 +104,11 @@ running = record {
   objects = object.Event 0 ∷ [];
   regions = [];
   rings = record { queue = 0; size = 8; info = None; base = 7; next_used = 0; kick = Some 0; call = None; ready = true; enabled = true } ∷ [];
-  requests = request.GetVringBase 0 ∷ request.SetVringCall 0 None ∷ [];
   guest = [];
 }
 
 abbrev begins : World ℕ
-begins = opening constants running 0
+begins = asked running (request.GetVringBase 0 ∷ request.SetVringCall 0 None ∷ [])
 
 abbrev stopped : World ℕ
 stopped = refuse-on (tt ∷ tt ∷ tt ∷ tt ∷ tt ∷ []) begins

@@ -105,11 +105,11 @@ module _ {V : Type 0} (g : Wiring) (h : Shared V) (takes : List Take) where
   put-stays e reply queues =
       said-cases (put_said h e reply) (λ said. After play.Put (after_said h e reply queues said))
       (λ wanted is. still play.Put (after_said h e reply queues (Ok wanted)) refl
-        (λ q. called-field (λ (x : Vring). x.epoch) (used h e reply) (ring_at h e.queue).call wanted q ∙ field-kept (λ (x : Vring). x.epoch) h e.queue (ring_after (ring_at h e.queue) op.Put) refl q)
-        (λ q. called-field (λ (x : Vring). x.base) (used h e reply) (ring_at h e.queue).call wanted q ∙ field-kept (λ (x : Vring). x.base) h e.queue (ring_after (ring_at h e.queue) op.Put) refl q))
+      (λ q. called-field (λ (x : Vring). x.epoch) (used h e reply) (ring_at h e.queue).call wanted q ∙ field-kept (λ (x : Vring). x.epoch) h e.queue (ring_after (ring_at h e.queue) op.Put) refl q)
+      (λ q. called-field (λ (x : Vring). x.base) (used h e reply) (ring_at h e.queue).call wanted q ∙ field-kept (λ (x : Vring). x.base) h e.queue (ring_after (ring_at h e.queue) op.Put) refl q))
       (λ fault is. still play.Put (after_said h e reply queues (Err fault)) refl
-        (λ q. field-kept (λ (x : Vring). x.epoch) h e.queue (ring_after (ring_at h e.queue) op.Hold) refl q)
-        (λ q. field-kept (λ (x : Vring). x.base) h e.queue (ring_after (ring_at h e.queue) op.Hold) refl q))
+      (λ q. field-kept (λ (x : Vring). x.epoch) h e.queue (ring_after (ring_at h e.queue) op.Hold) refl q)
+      (λ q. field-kept (λ (x : Vring). x.base) h e.queue (ring_after (ring_at h e.queue) op.Hold) refl q))
 
   pub work-stays : (m : Meaning V) (k : ℕ) (phase : Phase) (l : Play) → MayWork g k h phase l → After l (after_work m g k h phase l)
   work-stays m k =
@@ -168,25 +168,25 @@ module _ {V : Type 0} (w : World V) (calm : ℕ → Bool) (i : Invariant w calm)
 
   base-from : (p n : ℕ) → p < length h.rings → waits (ring_at h p) (op.SetBase n) ≡ false → (said : DeviceSaid) (q : ℕ) → Now (Set p (op.SetBase n)) said q
   base-from p n within ready said q = elim (cases_eq q p) [
-      | inl same ↦ (let P : ℕ → Type 0 = λ q. Now (Set p (op.SetBase n)) said q in subst P (sym same) here)
-      | inr other ↦ (let B : Bool → Type 0 = λ b. FromBases (bases q ++ cond (b && nat_lt (ring_at h p).epoch limit) (n ∷ []) []) (ring_at (with_ring h p (ring_after (ring_at h p) (op.SetBase n))) q) (takes_of q w.takes) in
-          subst B (sym (ne_eqb q p other)) (let R : Vring → Type 0 = λ r. FromBases (bases q ++ []) r (takes_of q w.takes) in subst R (sym (ring-other h p (ring_after (ring_at h p) (op.SetBase n)) q other)) (no-base q (ring_at h q) refl refl)))
-    ] where
-      r : Vring
-      r = ring_at h p
+    | inl same ↦ (let P : ℕ → Type 0 = λ q. Now (Set p (op.SetBase n)) said q in subst P (sym same) here)
+    | inr other ↦ (let B : Bool → Type 0 = λ b. FromBases (bases q ++ cond (b && nat_lt (ring_at h p).epoch limit) (n ∷ []) []) (ring_at (with_ring h p (ring_after (ring_at h p) (op.SetBase n))) q) (takes_of q w.takes) in
+        subst B (sym (ne_eqb q p other)) (let R : Vring → Type 0 = λ r. FromBases (bases q ++ []) r (takes_of q w.takes) in subst R (sym (ring-other h p (ring_after (ring_at h p) (op.SetBase n)) q other)) (no-base q (ring_at h q) refl refl)))
+  ] where
+    r : Vring
+    r = ring_at h p
 
-      ring-is : ring_at (with_ring h p (ring_after (ring_at h p) (op.SetBase n))) p ≡ based (ring_at h p) n
-      ring-is = ring-own h p (ring_after (ring_at h p) (op.SetBase n)) within ∙ ap (λ b. cond {A = Vring} (not b && true) (based (ring_at h p) n) (ring_at h p)) ready
+    ring-is : ring_at (with_ring h p (ring_after (ring_at h p) (op.SetBase n))) p ≡ based (ring_at h p) n
+    ring-is = ring-own h p (ring_after (ring_at h p) (op.SetBase n)) within ∙ ap (λ b. cond {A = Vring} (not b && true) (based (ring_at h p) n) (ring_at h p)) ready
 
-      by : (b : Bool) → nat_lt (ring_at h p).epoch limit ≡ b → FromBases (bases p ++ cond (true && b) (n ∷ []) []) (cond {A = Vring} b (record (ring_at h p) { queue = record (ring_at h p).queue { next_avail = n }; epoch = (ring_at h p).epoch + 1; base = n; taken = 0 }) (ring_at h p)) (takes_of p w.takes)
-      by true few = stays-from (bases p ++ n ∷ []) (record (ring_at h p) { epoch = (ring_at h p).epoch + 1; base = n }) _ (takes_of p w.takes) (takes_of p w.takes) (record { epoch = refl; base = refl; past = λ e low. refl }) (new-epoch (bases p) (ring_at h p) (takes_of p w.takes) n (numbered p) (from p))
-      by false few = no-base p (ring_at h p) refl refl
+    by : (b : Bool) → nat_lt (ring_at h p).epoch limit ≡ b → FromBases (bases p ++ cond (true && b) (n ∷ []) []) (cond {A = Vring} b (record (ring_at h p) { queue = record (ring_at h p).queue { next_avail = n }; epoch = (ring_at h p).epoch + 1; base = n; taken = 0 }) (ring_at h p)) (takes_of p w.takes)
+    by true few = stays-from (bases p ++ n ∷ []) (record (ring_at h p) { epoch = (ring_at h p).epoch + 1; base = n }) _ (takes_of p w.takes) (takes_of p w.takes) (record { epoch = refl; base = refl; past = λ e low. refl }) (new-epoch (bases p) (ring_at h p) (takes_of p w.takes) n (numbered p) (from p))
+    by false few = no-base p (ring_at h p) refl refl
 
-      here : Now (Set p (op.SetBase n)) said p
-      here =
-          let B : Bool → Type 0 = λ b. FromBases (bases p ++ cond (b && nat_lt (ring_at h p).epoch limit) (n ∷ []) []) (ring_at (with_ring h p (ring_after (ring_at h p) (op.SetBase n))) p) (takes_of p w.takes) in
-          let R : Vring → Type 0 = λ r. FromBases (bases p ++ cond (true && nat_lt (ring_at h p).epoch limit) (n ∷ []) []) r (takes_of p w.takes) in
-          subst B (sym (eq-eqb p p refl)) (subst R (sym ring-is) (by (nat_lt (ring_at h p).epoch limit) refl))
+    here : Now (Set p (op.SetBase n)) said p
+    here =
+        let B : Bool → Type 0 = λ b. FromBases (bases p ++ cond (b && nat_lt (ring_at h p).epoch limit) (n ∷ []) []) (ring_at (with_ring h p (ring_after (ring_at h p) (op.SetBase n))) p) (takes_of p w.takes) in
+        let R : Vring → Type 0 = λ r. FromBases (bases p ++ cond (true && nat_lt (ring_at h p).epoch limit) (n ∷ []) []) r (takes_of p w.takes) in
+        subst B (sym (eq-eqb p p refl)) (subst R (sym ring-is) (by (nat_lt (ring_at h p).epoch limit) refl))
 
   small-from : (s : Small) (said : DeviceSaid) → Fits w.wiring (frame_of h) w.control.plan.reply s (tail_of w.control.plan.steps) → Rattle.vub_model.specs.Control.waits_now h s ≡ false → (q : ℕ) → Now s said q
   small-from (Set p (op.SetBase n)) said ok ready q = base-from p n (let e = i.rings_size in omega (arith, e, ok.0)) ready said q
@@ -246,12 +246,12 @@ epochs-from {V} m (turn ∷ turns) (l ∷ labels) w z calm bases few i numbered 
     let now = invariant-turn m w p run.0 calm (λ q. omega (arith, few q)) i l run.1 in
     let still = few-turn m w p run.0 calm (length turns) (λ q. omega (arith, few q)) i l run.1 in
     let mid : AllFrom run.0 (λ q. bases q ++ given_by w p l q) =
-      turn-cases m w p run.0 (λ l. AllFrom run.0 (λ q. bases q ++ given_by w p l q))
-      (λ same q. rw (none-given w p q, append-nil (bases q)) (subst (λ (x : World V). FromBases (bases q) (ring_at x.shared q) (takes_of q x.takes)) (sym same) (from q)))
-      (λ l may is. subst (λ (x : World V). AllFrom x (λ q. bases q ++ given_by w p l q)) (sym is) (step-from w calm i numbered bases from m p l may)) l run.1 in
+    turn-cases m w p run.0 (λ l. AllFrom run.0 (λ q. bases q ++ given_by w p l q))
+    (λ same q. rw (none-given w p q, append-nil (bases q)) (subst (λ (x : World V). FromBases (bases q) (ring_at x.shared q) (takes_of q x.takes)) (sym same) (from q)))
+    (λ l may is. subst (λ (x : World V). AllFrom x (λ q. bases q ++ given_by w p l q)) (sym is) (step-from w calm i numbered bases from m p l may)) l run.1 in
     let count : Numbered run.0 =
-      turn-cases m w p run.0 (λ l. Numbered run.0) (λ same. subst (λ (x : World V). Numbered x) (sym same) numbered)
-      (λ l may is. subst (λ (x : World V). Numbered x) (sym is) (number-step m w numbered (λ s said ok. number-small w calm i numbered s said ok) p l may)) l run.1 in
+    turn-cases m w p run.0 (λ l. Numbered run.0) (λ same. subst (λ (x : World V). Numbered x) (sym same) numbered)
+    (λ l may is. subst (λ (x : World V). Numbered x) (sym is) (number-step m w numbered (λ s said ok. number-small w calm i numbered s said ok) p l may)) l run.1 in
     let rest = epochs-from m turns labels run.0 z (calm_after w p l run.0 calm) (λ q. bases q ++ given_by w p l q) still now count mid run.2 q in
     let same : (bases q ++ given_by w p l q) ++ bases_given m turns labels run.0 q ≡ bases q ++ (given_by w p l q ++ bases_given m turns labels (next m w p l) q) = append_assoc (bases q) (given_by w p l q) (bases_given m turns labels run.0 q) ∙ ap (λ x. bases q ++ (given_by w p l q ++ bases_given m turns labels x q)) (turn-next m w p l run.0 run.1) in
     subst (λ b. FromBases b (ring_at z.shared q) (takes_of q z.takes)) same rest

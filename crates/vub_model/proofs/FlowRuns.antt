@@ -79,11 +79,11 @@ module _ {V : Type 0} (m : Meaning V) (w : World V) (calls : List Asked) (flow :
   flow-control s said flights q = rw (append-nil calls, flights q) (flow q)
 
   module _ (flights : (s : Small) (said : DeviceSaid) → MayControl w.shared w.control.plan.steps s said → (q : ℕ) → (ring_at (small_after w.wiring w.shared s) q).flight ≡ (ring_at w.shared q).flight) where
-   pub flow-step : (p : Party) (l : Play) → May w p l → Flow (after m w p l) (calls ++ asked_at m w p l)
-   flow-step party.Guest play.Guest may = flow-guest w.guest
-   flow-step (party.Worker k) l may = subst (λ c. Flow (after m w (party.Worker k) l) (calls ++ c)) (sym (asked-same m w k l)) (flow-worker k l may)
-   flow-step party.Control (play.Control s said) may = flow-control s said (flights s said may)
-   flow-step p l may = absurd may
+    pub flow-step : (p : Party) (l : Play) → May w p l → Flow (after m w p l) (calls ++ asked_at m w p l)
+    flow-step party.Guest play.Guest may = flow-guest w.guest
+    flow-step (party.Worker k) l may = subst (λ c. Flow (after m w (party.Worker k) l) (calls ++ c)) (sym (asked-same m w k l)) (flow-worker k l may)
+    flow-step party.Control (play.Control s said) may = flow-control s said (flights s said may)
+    flow-step p l may = absurd may
 
 -- Turns and runs
 

@@ -124,11 +124,11 @@ module _ {V : Type 0} (m : Meaning V) (w : World V) (numbered : Numbered w) wher
   number-guest (Signal object ∷ actions) = numbered
 
   module _ (control : (s : Small) (said : DeviceSaid) → MayControl w.shared w.control.plan.steps s said → Numbered (after_control w s said)) where
-   pub number-step : (p : Party) (l : Play) → May w p l → Numbered (after m w p l)
-   number-step party.Guest play.Guest may = number-guest w.guest
-   number-step (party.Worker k) l may = number-work w.wiring w.shared w.takes numbered m k (phase_at w.phases k) l may
-   number-step party.Control (play.Control s said) may = control s said may
-   number-step p l may = absurd may
+    pub number-step : (p : Party) (l : Play) → May w p l → Numbered (after m w p l)
+    number-step party.Guest play.Guest may = number-guest w.guest
+    number-step (party.Worker k) l may = number-work w.wiring w.shared w.takes numbered m k (phase_at w.phases k) l may
+    number-step party.Control (play.Control s said) may = control s said may
+    number-step p l may = absurd may
 
 pub fresh-numbered : {V : Type 0} (w : World V) → IsFresh w → Numbered w
 fresh-numbered w fresh q = rw (fresh.no_takes, fresh.untaken q) (record { now = refl; none_later = λ e later. refl; each = λ e. (0, 0, refl) })

@@ -30,15 +30,13 @@ use Rattle.vub_model.specs.Shared.{Shared, ring_at, count_at, pending_at, has_nu
 use Rattle.vub_model.specs.Wiring.{Wiring, opened_at, no_worker, place_of, IsPlaced}
 use Rattle.vub_model.specs.World.{phase_at}
 use Rattle.vub_model.specs.Work.{is_object}
-use Rattle.vub_model.specs.ValidSetup.{or_else, is_event, is_event_or_none, is_free, is_free_or_none, is_first_of_queue, is_aligned, ring_is_sound, ring_fault, device_fault, region_fault, given_table_fault, guest_fault, fault_of, IsValid, is_answerable, request_fault}
-use Rattle.vub_model.specs.Opening.{flags_of, opening_events, opened_worker, wiring_of, listed, exit_member, opening_members, given_vring, ring_from, opening_rings, claimed, joined, placed, registered_kick, registered, opening_table, before_rings, opening, is_registered, new_control}
+use Rattle.vub_model.specs.ValidSetup.{or_else, is_event, is_event_or_none, is_free, is_free_or_none, is_first_of_queue, is_aligned, ring_is_sound, ring_fault, device_fault, region_fault, given_table_fault, guest_fault, fault_of, IsValid}
+use Rattle.vub_model.specs.Opening.{flags_of, opening_events, opened_worker, wiring_of, listed, exit_member, opening_members, given_vring, ring_from, opening_rings, claimed, joined, placed, registered_kick, registered, opening_table, before_rings, opening, is_registered, requests_of, new_control}
 use Rattle.vub_model.specs.Schedule.{IsKick, IsBellOrExit, IsOwn, known_at, claim_at, is_member, Linked, Settled, PhaseFits, HasInHand, ringing, waiting, Invariant, Wired, IsListener, RequestFits, NoBell}
 use Rattle.vub_model.proofs.Places.{place-is}
 use Rattle.vub_model.proofs.SchedWork.{known-ring, kick-ring, claim-event}
 use Rattle.vub_model.proofs.Waking.{has-none}
 use Rattle.vub_model.proofs.Registering.{Among, IsListed, IsOnKick, Stage, with-all, with-own, with-kept, claim-none, claim-kick, join-none, join-kick}
-use Rattle.vub_proto.specs.declared.request.Request.{Request}
-use Rattle.vub_proto.specs.declared.request.Request.TheVariants as request
 use Rattle.vub_model.proofs.Stepping.{begun-all}
 
 -- A set-up that fails no test
@@ -51,7 +49,7 @@ rings-sound : (constants : Constants) (setup : Setup) → IsValid constants setu
 unfolding fault_of
 rings-sound constants setup valid =
     let rings = ring_fault constants setup.objects [] setup.rings in
-    let guest = or_else (request_fault constants setup.objects 0 setup.requests) (guest_fault setup.objects setup.guest) in
+    let guest = guest_fault setup.objects setup.guest in
     let table = given_table_fault setup.objects setup.regions in
     let region = region_fault setup.objects setup.regions in
     let device = device_fault constants setup.objects in
@@ -59,20 +57,6 @@ rings-sound constants setup valid =
     let second = or-parts region (or_else table (or_else rings guest)) first.1 in
     let third = or-parts table (or_else rings guest) second.1 in
     (or-parts rings guest third.1).0
-
-requests-sound : (constants : Constants) (setup : Setup) → IsValid constants setup → request_fault constants setup.objects 0 setup.requests ≡ None
-unfolding fault_of
-requests-sound constants setup valid =
-    let requests = request_fault constants setup.objects 0 setup.requests in
-    let last = guest_fault setup.objects setup.guest in
-    let rings = ring_fault constants setup.objects [] setup.rings in
-    let table = given_table_fault setup.objects setup.regions in
-    let region = region_fault setup.objects setup.regions in
-    let device = device_fault constants setup.objects in
-    let first = or-parts device (or_else region (or_else table (or_else rings (or_else requests last)))) valid in
-    let second = or-parts region (or_else table (or_else rings (or_else requests last))) first.1 in
-    let third = or-parts table (or_else rings (or_else requests last)) second.1 in
-    (or-parts requests last (or-parts rings (or_else requests last) third.1).1).0
 
 -- what is asked of a ring behind these
 pub record IsSound (constants : Constants) (objects : List Object) (earlier : List GivenRing) (r : GivenRing) : Type 0 where
@@ -322,9 +306,9 @@ module _ (constants : Constants) (objects : List Object) (given : List GivenRing
   exit-in : (x : ℕ) (exit : Option ℕ) → exit ≡ Some x → is_member (exit_member exit constants.queues) x ≡ true
   exit-in x exit is = let P : Option ℕ → Type 0 = λ e. is_member (exit_member e constants.queues) x ≡ true in subst P (sym is) (with-own [] (listed x constants.queues))
 
-  module _ {V : Type 0} (regions : List GivenRegion) (requests : List Request) (guest : List Guest) (v : V) where
+  module _ {V : Type 0} (regions : List GivenRegion) (guest : List Guest) (v : V) where
     abbrev setup : Setup
-    setup = record { objects = objects; regions = regions; rings = given; requests = requests; guest = guest }
+    setup = record { objects = objects; regions = regions; rings = given; guest = guest }
 
     first-stage : Stage g count workers constants.exits rings [] [] (before_rings constants setup v)
     first-stage = record {
@@ -486,52 +470,17 @@ registered-all : {V : Type 0} (constants : Constants) (setup : Setup) (v : V) �
 unfolding opening
 registered-all constants setup v is_valid =
     let valid = rings-sound constants setup is_valid in
-    register-all constants setup.objects setup.rings valid [] setup.rings (before_rings constants setup v) valid (λ r among. among) (first-stage constants setup.objects setup.rings valid setup.regions setup.requests setup.guest v)
+    register-all constants setup.objects setup.rings valid [] setup.rings (before_rings constants setup v) valid (λ r among. among) (first-stage constants setup.objects setup.rings valid setup.regions setup.guest v)
 
 pub opening-untaken : {V : Type 0} (constants : Constants) (setup : Setup) (v : V) → IsValid constants setup → (q : ℕ) → (ring_at (opening constants setup v).shared q).taken ≡ 0
 opening-untaken constants setup v is_valid q =
     let valid = rings-sound constants setup is_valid in
     ap (λ (x : Vring). x.taken) (ring-here constants setup.objects setup.rings valid (opening constants setup v).shared (registered-all constants setup v is_valid) q) ∙ (none-taken constants setup.objects setup.rings valid q).1
 
--- the requests of a valid set-up fit its opening
-requests-fit : {V : Type 0} (constants : Constants) (setup : Setup) (v : V) → IsValid constants setup → AllByRecursion (RequestFits (wiring_of constants (length setup.objects)) (frame_of (opening constants setup v).shared).events) setup.requests
-unfolding is_answerable request_fault
-requests-fit {V} constants setup v is_valid = all 0 setup.requests (requests-sound constants setup is_valid) where
-  g : Wiring
-  g = wiring_of constants (length setup.objects)
-
-  s : Stage (wiring_of constants (length setup.objects)) (length setup.objects) (length constants.masks) constants.exits (opening_rings constants setup.rings) setup.rings setup.rings (opening constants setup v).shared
-  s = registered-all constants setup v is_valid
-
-  no-bell : (o : ℕ) → is_event setup.objects o ≡ true → NoBell (wiring_of constants (length setup.objects)) o
-  no-bell o is k below same =
-      let low = object-below setup.objects o is in
-      let valid = rings-sound constants setup is_valid in
-      let bell : (opened_at (wiring_of constants (length setup.objects)) k).bell ≡ length setup.objects + k = ap (λ (x : Opened). x.bell) (opened-is constants setup.objects setup.rings valid k (let size = opened-size constants setup.objects setup.rings valid in omega (arith, below, size))) in
-      absurd (omega (arith, low, bell, same))
-
-  there : (o : ℕ) → is_event setup.objects o ≡ true → slice_index_or (frame_of (opening constants setup v).shared).events o false ≡ true
-  there o is =
-      let low = object-below setup.objects o is in
-      let long = s.objects in
-      mapped-at (λ (e : Option Event). is_some e) (opening constants setup v).shared.table.objects o None false (omega (arith, low, long)) ∙ s.some o (omega (arith, low))
-
-  one : (r : Request) → is_answerable constants setup.objects r ≡ true → RequestFits (wiring_of constants (length setup.objects)) (frame_of (opening constants setup v).shared).events r
-  one (request.SetVringKick queue (Some o)) is = (there o is, no-bell o is)
-  one (request.RegisterListener worker o set token) is = no-bell o (and_parts (is_event setup.objects o) (nat_lt worker (length constants.masks)) is).0
-  one (request.SetVringKick queue None) is = tt
-  one r is = tt
-
-  all : (i : ℕ) (requests : List Request) → request_fault constants setup.objects i requests ≡ None → AllByRecursion (RequestFits (wiring_of constants (length setup.objects)) (frame_of (opening constants setup v).shared).events) requests
-  all i [] is = tt
-  all i (r ∷ requests) is =
-      let parts = cond-none (is_answerable constants setup.objects r) (request_fault constants setup.objects (i + 1) requests) (setup_fault.Request i) is in
-      (one r parts.0, all (i + 1) requests parts.1)
-
 pub opening-meets : {V : Type 0} (constants : Constants) (setup : Setup) (v : V) → IsValid constants setup → Invariant (opening constants setup v) (is_registered setup.rings)
 unfolding opening
 opening-meets {V} constants setup v is_valid =
-    let fit = requests-fit constants setup v is_valid in
+    let fit : AllByRecursion (RequestFits (wiring_of constants (length setup.objects)) (frame_of (opening constants setup v).shared).events) (requests_of setup) = tt in
     let valid = rings-sound constants setup is_valid in
     let objects = setup.objects in
     let given = setup.rings in

@@ -84,7 +84,7 @@ module _ {V : Type 0} (m : Meaning V) (w : World V) (labels : List Small) where
   control-order s said (t ∷ rest) is may order =
       let left : Plan = record w.control.plan { steps = tail_of w.control.plan.steps } in
       let head : w.control.plan ≡ record left { steps = s ∷ left.steps } =
-          ap (λ steps. record w.control.plan { steps = steps }) (is ∙ (ap (λ x. x ∷ rest) (sym may.0) ∙ ap (λ l. s ∷ l) (sym (ap tail_of is)))) in
+      ap (λ steps. record w.control.plan { steps = steps }) (is ∙ (ap (λ x. x ∷ rest) (sym may.0) ∙ ap (λ l. s ∷ l) (sym (ap tail_of is)))) in
       let c = played w.wiring w.shared w.control s said in
       one-more w.wiring (frame_of (small_after w.wiring w.shared s)) (small_after w.wiring w.shared s).guest.regions c s left w.control.plan c.plan.steps w.control.requests labels refl refl head (may-leave w.wiring w.shared s said left) order
 

@@ -332,7 +332,7 @@ module _ {V : Type 0} (w : World V) (calm : ℕ → Bool) (i : Invariant w calm)
                 quiet-woken q k n o (no_insert k n) (λ e. no_delete k o below e member)
                 (λ has. ap (λ l. has_number n (slice_index_or l k [])) pending ∙ has)
                 (old-woken q k n o at goes was_kick was.1 (ap is_on (sym same) ∙ on) (ap has_addresses (sym same) ∙ addresses) was.0
-                  (sym (ap (λ m. has_left m (ring_at z q)) guest ∙ ap (has_left h.guest) same) ∙ left_one))
+                (sym (ap (λ m. has_left m (ring_at z q)) guest ∙ ap (has_left h.guest) same) ∙ left_one))
           ]
 
       closing : ((k : ℕ) → k < length g.opened → OldRung k → NewRung k) → Invariant after (calm_after w party.Control (play.Control s said) after calm)
@@ -381,28 +381,28 @@ module _ {V : Type 0} (w : World V) (calm : ℕ → Bool) (i : Invariant w calm)
       quiet-close (Add k o n) is refl refl refl refl
       (λ q j m x low at kick member calms. by q j m x low at kick member (is_member (list_at g fr k) o) refl (is_object (ring_at h q).kick o) refl calms)
       (λ j m e. absurd cc) (λ j x low e member. absurd cc) (λ x e. absurd cc) where
-    its : IsKickAt g fr k n o
-    its = (safe (Add k o n) is refl).0.0
+        its : IsKickAt g fr k n o
+        its = (safe (Add k o n) is refl).0.0
 
-    below : k < length g.opened
-    below = i.wired.placed its.queue k n its.placed
+        below : k < length g.opened
+        below = i.wired.placed its.queue k n its.placed
 
-    by : (q j m x : ℕ) → j < length g.opened → IsPlaced g q j m → (ring_at h q).kick ≡ Some x → is_member (list_at g (frame_of (small_after g h (Add k o n))) j) x ≡ true
-        → (b : Bool) → is_member (list_at g fr k) o ≡ b → (c : Bool) → is_object (ring_at h q).kick o ≡ c → cond (not b && c) true (not false && calm q && eqb (index_word (small_after g h (Add k o n)) q) (index_word h q)) ≡ true
-        → NewWoken (Add k o n) is refl q j m x ⊎ ((calm q ≡ true) × (is_member (list_at g fr j) x ≡ true))
-    by q j m x low at kick member true has c own calms = inr (calm-of false (calm q) _ calms, fewer k (with_new (list_at g fr k) (listener o n)) below j x low (λ new. ap (λ b. is_member (cond b (list_at g fr k) (with_member (list_at g fr k) (listener o n))) x) (sym has) ∙ new) (ap (λ l. is_member l x) (sym (list-is (Add k o n) is refl j)) ∙ member))
-    by q j m x low at kick member false has false own calms =
-        let apart : o ≡ x → ⊥ = (λ same. let e = eq-eqb x o (sym same) in let f = ap (λ c. is_object c o) kick in absurd cc) in
-        inr (calm-of false (calm q) _ calms, fewer k (with_new (list_at g fr k) (listener o n)) below j x low (λ new. sym (new-other (list_at g fr k) (listener o n) x apart) ∙ new) (ap (λ l. is_member l x) (sym (list-is (Add k o n) is refl j)) ∙ member))
-    by q j m x low at kick member false has true own calms =
-        let mine : kick_at fr q ≡ Some o = kick-ring h q ∙ object-is (ring_at h q).kick o own in
-        let queue : its.queue ≡ q = one-kick g fr i.wired i.linked its.queue q o its.kick mine in
-        let P : ℕ → Type 0 = λ p. IsPlaced g p k n in
-        let place = one-place g q k n j m (subst P queue its.placed) at in
-        let first : First (rest_after g h (Add k o n) said left).steps (Insert k n) = (let S : Bool → Type 0 = λ b. First (cond (not b) left (record left { steps = drop_two left.steps })).steps (Insert k n) in subst S (sym has) (safe (Add k o n) is refl).0.1) in
-        let F : ℕ → ℕ → Type 0 = λ a b. First (after_control w (Add k o n) said).control.plan.steps (Insert a b) in
-        let moved : F j m = subst (λ b. F j b) place.1 (subst (λ a. F a n) place.0 (first-now (Add k o n) is refl (Insert k n) first)) in
-        inl (inr (inl moved))
+        by : (q j m x : ℕ) → j < length g.opened → IsPlaced g q j m → (ring_at h q).kick ≡ Some x → is_member (list_at g (frame_of (small_after g h (Add k o n))) j) x ≡ true
+            → (b : Bool) → is_member (list_at g fr k) o ≡ b → (c : Bool) → is_object (ring_at h q).kick o ≡ c → cond (not b && c) true (not false && calm q && eqb (index_word (small_after g h (Add k o n)) q) (index_word h q)) ≡ true
+            → NewWoken (Add k o n) is refl q j m x ⊎ ((calm q ≡ true) × (is_member (list_at g fr j) x ≡ true))
+        by q j m x low at kick member true has c own calms = inr (calm-of false (calm q) _ calms, fewer k (with_new (list_at g fr k) (listener o n)) below j x low (λ new. ap (λ b. is_member (cond b (list_at g fr k) (with_member (list_at g fr k) (listener o n))) x) (sym has) ∙ new) (ap (λ l. is_member l x) (sym (list-is (Add k o n) is refl j)) ∙ member))
+        by q j m x low at kick member false has false own calms =
+            let apart : o ≡ x → ⊥ = (λ same. let e = eq-eqb x o (sym same) in let f = ap (λ c. is_object c o) kick in absurd cc) in
+            inr (calm-of false (calm q) _ calms, fewer k (with_new (list_at g fr k) (listener o n)) below j x low (λ new. sym (new-other (list_at g fr k) (listener o n) x apart) ∙ new) (ap (λ l. is_member l x) (sym (list-is (Add k o n) is refl j)) ∙ member))
+        by q j m x low at kick member false has true own calms =
+            let mine : kick_at fr q ≡ Some o = kick-ring h q ∙ object-is (ring_at h q).kick o own in
+            let queue : its.queue ≡ q = one-kick g fr i.wired i.linked its.queue q o its.kick mine in
+            let P : ℕ → Type 0 = λ p. IsPlaced g p k n in
+            let place = one-place g q k n j m (subst P queue its.placed) at in
+            let first : First (rest_after g h (Add k o n) said left).steps (Insert k n) = (let S : Bool → Type 0 = λ b. First (cond (not b) left (record left { steps = drop_two left.steps })).steps (Insert k n) in subst S (sym has) (safe (Add k o n) is refl).0.1) in
+            let F : ℕ → ℕ → Type 0 = λ a b. First (after_control w (Add k o n) said).control.plan.steps (Insert a b) in
+            let moved : F j m = subst (λ b. F j b) place.1 (subst (λ a. F a n) place.0 (first-now (Add k o n) is refl (Insert k n) first)) in
+            inl (inr (inl moved))
 
   by-delete : (k o : ℕ) → w.control.plan.steps ≡ Delete k o ∷ left.steps → Invariant (after_control w (Delete k o) said) (calm_after w party.Control (play.Control (Delete k o) said) (after_control w (Delete k o) said) calm)
   by-delete k o is =
@@ -411,28 +411,28 @@ module _ {V : Type 0} (w : World V) (calm : ℕ → Bool) (i : Invariant w calm)
       (λ j m e. absurd cc)
       (λ j x low e member. gone j x e member)
       (λ x e. absurd cc) where
-    its : IsKickAt g fr k (safe (Delete k o) is refl).0.0 o
-    its = (safe (Delete k o) is refl).0.1
+        its : IsKickAt g fr k (safe (Delete k o) is refl).0.0 o
+        its = (safe (Delete k o) is refl).0.1
 
-    below : k < length g.opened
-    below = i.wired.placed its.queue k (safe (Delete k o) is refl).0.0 its.placed
+        below : k < length g.opened
+        below = i.wired.placed its.queue k (safe (Delete k o) is refl).0.0 its.placed
 
-    less : (y : ℕ) → is_member (without_member (list_at g fr k) o) y ≡ true → is_member (list_at g fr k) y ≡ true
-    less y has = elim (cases_eq y o) [
-      | inl same ↦ (let none = without-own (list_at g fr k) o in let here = ap (is_member (without_member (list_at g fr k) o)) (sym same) ∙ has in absurd cc)
-      | inr other ↦ sym (without-other (list_at g fr k) o y other) ∙ has
-    ]
+        less : (y : ℕ) → is_member (without_member (list_at g fr k) o) y ≡ true → is_member (list_at g fr k) y ≡ true
+        less y has = elim (cases_eq y o) [
+          | inl same ↦ (let none = without-own (list_at g fr k) o in let here = ap (is_member (without_member (list_at g fr k) o)) (sym same) ∙ has in absurd cc)
+          | inr other ↦ sym (without-other (list_at g fr k) o y other) ∙ has
+        ]
 
-    gone : (j x : ℕ) → Delete k o ≡ Delete j x → is_member (list_at g (frame_of (small_after g h (Delete k o))) j) x ≡ true → ⊥
-    gone j x e member =
-        let a : k ≡ j = cc in
-        let b : o ≡ x = cc in
-        let P : ℕ → Type 0 = λ j. is_member (list_at g (frame_of (small_after g h (Delete k o))) j) x ≡ true in
-        let here : is_member (list_at g (frame_of (small_after g h (Delete k o))) k) x ≡ true = subst P (sym a) member in
-        let list : list_at g (frame_of (small_after g h (Delete k o))) k ≡ without_member (list_at g fr k) o = list-is (Delete k o) is refl k ∙ list-own g fr i.wired i.linked k (without_member (list_at g fr k) o) below in
-        let none = without-own (list_at g fr k) o in
-        let here_too : is_member (without_member (list_at g fr k) o) o ≡ true = ap (is_member (without_member (list_at g fr k) o)) b ∙ (ap (λ l. is_member l x) (sym list) ∙ here) in
-        absurd cc
+        gone : (j x : ℕ) → Delete k o ≡ Delete j x → is_member (list_at g (frame_of (small_after g h (Delete k o))) j) x ≡ true → ⊥
+        gone j x e member =
+            let a : k ≡ j = cc in
+            let b : o ≡ x = cc in
+            let P : ℕ → Type 0 = λ j. is_member (list_at g (frame_of (small_after g h (Delete k o))) j) x ≡ true in
+            let here : is_member (list_at g (frame_of (small_after g h (Delete k o))) k) x ≡ true = subst P (sym a) member in
+            let list : list_at g (frame_of (small_after g h (Delete k o))) k ≡ without_member (list_at g fr k) o = list-is (Delete k o) is refl k ∙ list-own g fr i.wired i.linked k (without_member (list_at g fr k) o) below in
+            let none = without-own (list_at g fr k) o in
+            let here_too : is_member (without_member (list_at g fr k) o) o ≡ true = ap (is_member (without_member (list_at g fr k) o)) b ∙ (ap (λ l. is_member l x) (sym list) ∙ here) in
+            absurd cc
 
   by-bell : (o : ℕ) → w.control.plan.steps ≡ Bell o ∷ left.steps → Invariant (after_control w (Bell o) said) (calm_after w party.Control (play.Control (Bell o) said) (after_control w (Bell o) said) calm)
   by-bell o is =
@@ -440,44 +440,44 @@ module _ {V : Type 0} (w : World V) (calm : ℕ → Bool) (i : Invariant w calm)
       (λ q j m x low at kick member calms. still (Bell o) is refl refl q j m x member (calm-of false (calm q) _ calms))
       (λ j m e. absurd cc) (λ j x low e member. absurd cc)
       (λ k below old. by k below old) where
-    by : (k : ℕ) → k < length g.opened → OldRung (Bell o) is refl k → NewRung (Bell o) is refl k
-    by k below (inl rung) = inl (rung-moved _ _ (phase_at w.phases k) (phase_at w.phases k) refl (counts-kept g h (Bell o) (opened_at g k).bell) rung)
-    by k below (inr first) =
-        let same : o ≡ (opened_at g k).bell = cc in
-        let there : is_some (event_at h.table (opened_at g k).bell) ≡ true = sym (get_or-map is_some h.table.objects (opened_at g k).bell None) ∙ i.wired.bells k below in
-        let P : ℕ → Type 0 = λ x. 0 < count_at (raised h x).table (opened_at g k).bell in
-        inl (ringing (subst P (sym same) (rung-there h.table (opened_at g k).bell there)))
+        by : (k : ℕ) → k < length g.opened → OldRung (Bell o) is refl k → NewRung (Bell o) is refl k
+        by k below (inl rung) = inl (rung-moved _ _ (phase_at w.phases k) (phase_at w.phases k) refl (counts-kept g h (Bell o) (opened_at g k).bell) rung)
+        by k below (inr first) =
+            let same : o ≡ (opened_at g k).bell = cc in
+            let there : is_some (event_at h.table (opened_at g k).bell) ≡ true = sym (get_or-map is_some h.table.objects (opened_at g k).bell None) ∙ i.wired.bells k below in
+            let P : ℕ → Type 0 = λ x. 0 < count_at (raised h x).table (opened_at g k).bell in
+            inl (ringing (subst P (sym same) (rung-there h.table (opened_at g k).bell there)))
 
   by-listen : (k o n : ℕ) → w.control.plan.steps ≡ Listen k o n ∷ left.steps → Invariant (after_control w (Listen k o n) said) (calm_after w party.Control (play.Control (Listen k o n) said) (after_control w (Listen k o n) said) calm)
   by-listen k o n is =
       quiet-close (Listen k o n) is refl refl refl refl
       (λ q j m x low at kick member calms. inr (calm-of false (calm q) _ calms, by j x low q (kick-claim q x kick) (passes g fr (Listen k o n)) refl (ap (λ l. is_member l x) (sym (list-is (Listen k o n) is refl j)) ∙ member)))
       (λ j m e. absurd cc) (λ j x low e member. absurd cc) (λ x e. absurd cc) where
-    below : k < length g.opened
-    below = (safe (Listen k o n) is refl).0.1
+        below : k < length g.opened
+        below = (safe (Listen k o n) is refl).0.1
 
-    free : (b c : Bool) → not (b || c) ≡ true → c ≡ false
-    free false false h = refl
-    free false true h = absurd cc
-    free true c h = absurd cc
+        free : (b c : Bool) → not (b || c) ≡ true → c ≡ false
+        free false false h = refl
+        free false true h = absurd cc
+        free true c h = absurd cc
 
-    by : (j x : ℕ) → j < length g.opened → (q : ℕ) → claim_at fr x ≡ Some q → (b : Bool) → passes g fr (Listen k o n) ≡ b → is_member (list_at g (record fr { lists = cond b (frame_step g fr (Listen k o n)).lists fr.lists }) j) x ≡ true → is_member (list_at g fr j) x ≡ true
-    by j x low q claim false may member = member
-    by j x low q claim true may member =
-        let none = free (is_member (list_at g fr k) o) (is_some (claim_at fr o)) may in
-        fewer k (with_new (list_at g fr k) (listener o n)) below j x low (λ new. sym (new-other (list_at g fr k) (listener o n) x (λ same. let some : is_some (claim_at fr o) ≡ true = ap (λ c. is_some (claim_at fr c)) same ∙ ap (λ (c : Option ℕ). is_some c) claim in absurd cc)) ∙ new) member
+        by : (j x : ℕ) → j < length g.opened → (q : ℕ) → claim_at fr x ≡ Some q → (b : Bool) → passes g fr (Listen k o n) ≡ b → is_member (list_at g (record fr { lists = cond b (frame_step g fr (Listen k o n)).lists fr.lists }) j) x ≡ true → is_member (list_at g fr j) x ≡ true
+        by j x low q claim false may member = member
+        by j x low q claim true may member =
+            let none = free (is_member (list_at g fr k) o) (is_some (claim_at fr o)) may in
+            fewer k (with_new (list_at g fr k) (listener o n)) below j x low (λ new. sym (new-other (list_at g fr k) (listener o n) x (λ same. let some : is_some (claim_at fr o) ≡ true = ap (λ c. is_some (claim_at fr c)) same ∙ ap (λ (c : Option ℕ). is_some c) claim in absurd cc)) ∙ new) member
 
   by-unlisten : (k o above : ℕ) → w.control.plan.steps ≡ Unlisten k o above ∷ left.steps → Invariant (after_control w (Unlisten k o above) said) (calm_after w party.Control (play.Control (Unlisten k o above) said) (after_control w (Unlisten k o above) said) calm)
   by-unlisten k o above is =
       quiet-close (Unlisten k o above) is refl refl refl refl
       (λ q j m x low at kick member calms. inr (calm-of false (calm q) _ calms, fewer k (without_above (list_at g fr k) o above) (safe (Unlisten k o above) is refl).0.1 j x low (less x (has_token_above above (member_of (list_at g fr k) o))) (ap (λ l. is_member l x) (sym (list-is (Unlisten k o above) is refl j)) ∙ member)))
       (λ j m e. absurd cc) (λ j x low e member. absurd cc) (λ x e. absurd cc) where
-    less : (y : ℕ) (b : Bool) → is_member (cond b (without_member (list_at g fr k) o) (list_at g fr k)) y ≡ true → is_member (list_at g fr k) y ≡ true
-    less y false has = has
-    less y true has = elim (cases_eq y o) [
-      | inl same ↦ (let none = without-own (list_at g fr k) o in let here = ap (is_member (without_member (list_at g fr k) o)) (sym same) ∙ has in absurd cc)
-      | inr other ↦ sym (without-other (list_at g fr k) o y other) ∙ has
-    ]
+        less : (y : ℕ) (b : Bool) → is_member (cond b (without_member (list_at g fr k) o) (list_at g fr k)) y ≡ true → is_member (list_at g fr k) y ≡ true
+        less y false has = has
+        less y true has = elim (cases_eq y o) [
+          | inl same ↦ (let none = without-own (list_at g fr k) o in let here = ap (is_member (without_member (list_at g fr k) o)) (sym same) ∙ has in absurd cc)
+          | inr other ↦ sym (without-other (list_at g fr k) o y other) ∙ has
+        ]
 
   -- Pending sets
 
@@ -497,49 +497,49 @@ module _ {V : Type 0} (w : World V) (calm : ℕ → Bool) (i : Invariant w calm)
       (λ j m has. inl (fewer-numbers j m has))
       (λ j below some old. quiet-rung (Remove k n) is refl j (λ e. absurd cc) (old (λ none. some (still-none j none))))
       (λ q j m x at goes kick member on addresses calms left_one.
-        let low = i.wired.placed q j m at in
-        by q j m x low at kick (old-woken (Remove k n) is refl q j m x at goes kick (same-lists (Remove k n) is refl refl j x member) on addresses (calm-of false (calm q) _ calms) left_one)) where
-    fewer-numbers : (j m : ℕ) → has_number m (pending_at (removed h k n) j) ≡ true → has_number m (pending_at h j) ≡ true
-    fewer-numbers j m has = elim (cases_eq j k) [
-      | inl same ↦ (let P : ℕ → Type 0 = λ j. has_number m (pending_at (removed h k n) j) ≡ true → has_number m (pending_at h j) ≡ true in (subst P (sym same) (λ has. lacking-fewer (pending_at h k) n m (ap (has_number m) (sym (removed-own k n)) ∙ has))) has)
-      | inr other ↦ ap (has_number m) (sym (pending-other k (without_number (pending_at h k) n) j other)) ∙ has
-    ]
-
-    still-none : (j : ℕ) → pending_at h j ≡ [] → pending_at (removed h k n) j ≡ []
-    still-none j none = elim (cases_eq j k) [
-      | inl same ↦ (let P : ℕ → Type 0 = λ j. pending_at h j ≡ [] → pending_at (removed h k n) j ≡ [] in (subst P (sym same) (λ none. removed-own k n ∙ lacking-none (pending_at h k) n none)) none)
-      | inr other ↦ pending-other k (without_number (pending_at h k) n) j other ∙ none
-    ]
-
-    fits_now : (object : ℕ) × IsKickAt g fr k n object × First left.steps (Delete k object)
-    fits_now = (safe (Remove k n) is refl).0
-
-    -- the number that is removed is that of the kick which is deleted next
-    own : (q j m x : ℕ) → IsPlaced g q j m → (ring_at h q).kick ≡ Some x → j ≡ k → m ≡ n → NewWoken (Remove k n) is refl q j m x
-    own q j m x at kick a b =
-        let P : ℕ → ℕ → Type 0 = λ j m. IsPlaced g q j m in
-        let here : IsPlaced g q k n = subst (λ m. P k m) b (subst (λ j. P j m) a at) in
-        let queue : fits_now.1.queue ≡ q = one-queue g fits_now.1.queue q k n fits_now.1.placed here in
-        let K : ℕ → Type 0 = λ p. kick_at fr p ≡ Some fits_now.0 in
-        let theirs = subst K queue fits_now.1.kick in
-        let mine = kick-ring h q ∙ kick in
-        let object : fits_now.0 ≡ x = cc in
-        let D : ℕ → ℕ → Type 0 = λ j x. First (after_control w (Remove k n) said).control.plan.steps (Delete j x) in
-        inr (inr (subst (λ x. D j x) object (subst (λ j. D j fits_now.0) (sym a) (first-now (Remove k n) is refl (Delete k fits_now.0) fits_now.2))))
-
-    by : (q j m x : ℕ) → j < length g.opened → IsPlaced g q j m → (ring_at h q).kick ≡ Some x → OldWoken (Remove k n) is refl q j m x → NewWoken (Remove k n) is refl q j m x
-    by q j m x low at kick (inr (inl first)) = absurd cc
-    by q j m x low at kick (inr (inr first)) = absurd cc
-    by q j m x low at kick (inl (signalled above)) = inl (signalled above)
-    by q j m x low at kick (inl (listed has)) = inl (listed has)
-    by q j m x low at kick (inl (waiting has)) =
-        elim (cases_eq j k) [
-          | inl a ↦ elim (cases_eq m n) [
-            | inl b ↦ own q j m x at kick a b
-            | inr b ↦ inl (waiting (let P : ℕ → Type 0 = λ j. has_number m (pending_at h j) ≡ true → has_number m (pending_at (removed h k n) j) ≡ true in (subst P (sym a) (λ has. ap (has_number m) (removed-own k n) ∙ lacking-other (pending_at h k) n m b has)) has))
-          ]
-          | inr a ↦ inl (waiting (ap (has_number m) (pending-other k (without_number (pending_at h k) n) j a) ∙ has))
+      let low = i.wired.placed q j m at in
+      by q j m x low at kick (old-woken (Remove k n) is refl q j m x at goes kick (same-lists (Remove k n) is refl refl j x member) on addresses (calm-of false (calm q) _ calms) left_one)) where
+        fewer-numbers : (j m : ℕ) → has_number m (pending_at (removed h k n) j) ≡ true → has_number m (pending_at h j) ≡ true
+        fewer-numbers j m has = elim (cases_eq j k) [
+          | inl same ↦ (let P : ℕ → Type 0 = λ j. has_number m (pending_at (removed h k n) j) ≡ true → has_number m (pending_at h j) ≡ true in (subst P (sym same) (λ has. lacking-fewer (pending_at h k) n m (ap (has_number m) (sym (removed-own k n)) ∙ has))) has)
+          | inr other ↦ ap (has_number m) (sym (pending-other k (without_number (pending_at h k) n) j other)) ∙ has
         ]
+
+        still-none : (j : ℕ) → pending_at h j ≡ [] → pending_at (removed h k n) j ≡ []
+        still-none j none = elim (cases_eq j k) [
+          | inl same ↦ (let P : ℕ → Type 0 = λ j. pending_at h j ≡ [] → pending_at (removed h k n) j ≡ [] in (subst P (sym same) (λ none. removed-own k n ∙ lacking-none (pending_at h k) n none)) none)
+          | inr other ↦ pending-other k (without_number (pending_at h k) n) j other ∙ none
+        ]
+
+        fits_now : (object : ℕ) × IsKickAt g fr k n object × First left.steps (Delete k object)
+        fits_now = (safe (Remove k n) is refl).0
+
+        -- the number that is removed is that of the kick which is deleted next
+        own : (q j m x : ℕ) → IsPlaced g q j m → (ring_at h q).kick ≡ Some x → j ≡ k → m ≡ n → NewWoken (Remove k n) is refl q j m x
+        own q j m x at kick a b =
+            let P : ℕ → ℕ → Type 0 = λ j m. IsPlaced g q j m in
+            let here : IsPlaced g q k n = subst (λ m. P k m) b (subst (λ j. P j m) a at) in
+            let queue : fits_now.1.queue ≡ q = one-queue g fits_now.1.queue q k n fits_now.1.placed here in
+            let K : ℕ → Type 0 = λ p. kick_at fr p ≡ Some fits_now.0 in
+            let theirs = subst K queue fits_now.1.kick in
+            let mine = kick-ring h q ∙ kick in
+            let object : fits_now.0 ≡ x = cc in
+            let D : ℕ → ℕ → Type 0 = λ j x. First (after_control w (Remove k n) said).control.plan.steps (Delete j x) in
+            inr (inr (subst (λ x. D j x) object (subst (λ j. D j fits_now.0) (sym a) (first-now (Remove k n) is refl (Delete k fits_now.0) fits_now.2))))
+
+        by : (q j m x : ℕ) → j < length g.opened → IsPlaced g q j m → (ring_at h q).kick ≡ Some x → OldWoken (Remove k n) is refl q j m x → NewWoken (Remove k n) is refl q j m x
+        by q j m x low at kick (inr (inl first)) = absurd cc
+        by q j m x low at kick (inr (inr first)) = absurd cc
+        by q j m x low at kick (inl (signalled above)) = inl (signalled above)
+        by q j m x low at kick (inl (listed has)) = inl (listed has)
+        by q j m x low at kick (inl (waiting has)) =
+            elim (cases_eq j k) [
+              | inl a ↦ elim (cases_eq m n) [
+                | inl b ↦ own q j m x at kick a b
+                | inr b ↦ inl (waiting (let P : ℕ → Type 0 = λ j. has_number m (pending_at h j) ≡ true → has_number m (pending_at (removed h k n) j) ≡ true in (subst P (sym a) (λ has. ap (has_number m) (removed-own k n) ∙ lacking-other (pending_at h k) n m b has)) has))
+              ]
+              | inr a ↦ inl (waiting (ap (has_number m) (pending-other k (without_number (pending_at h k) n) j a) ∙ has))
+            ]
 
   by-insert : (k n : ℕ) → w.control.plan.steps ≡ Insert k n ∷ left.steps → Invariant (after_control w (Insert k n) said) (calm_after w party.Control (play.Control (Insert k n) said) (after_control w (Insert k n) said) calm)
   by-insert k n is =
@@ -547,44 +547,44 @@ module _ {V : Type 0} (w : World V) (calm : ℕ → Bool) (i : Invariant w calm)
       (λ j m has. from j m has)
       (λ j below some old. bells j below some old (cases_eq j k))
       (λ q j m x at goes kick member on addresses calms left_one.
-        by q j m x (old-woken (Insert k n) is refl q j m x at goes kick (same-lists (Insert k n) is refl refl j x member) on addresses (calm-of false (calm q) _ calms) left_one)) where
-    number : IsNumber g k n
-    number = (safe (Insert k n) is refl).0.0
+      by q j m x (old-woken (Insert k n) is refl q j m x at goes kick (same-lists (Insert k n) is refl refl j x member) on addresses (calm-of false (calm q) _ calms) left_one)) where
+        number : IsNumber g k n
+        number = (safe (Insert k n) is refl).0.0
 
-    within : k < length h.pending
-    within = let low = i.wired.placed number.0 k n number.1 in let e = i.pending_size in omega (arith, low, e)
+        within : k < length h.pending
+        within = let low = i.wired.placed number.0 k n number.1 in let e = i.pending_size in omega (arith, low, e)
 
-    inserted-own : pending_at (inserted h k n) k ≡ with_number (pending_at h k) n
-    inserted-own = get_or-set_same h.pending k (with_number (pending_at h k) n) [] within
+        inserted-own : pending_at (inserted h k n) k ≡ with_number (pending_at h k) n
+        inserted-own = get_or-set_same h.pending k (with_number (pending_at h k) n) [] within
 
-    from : (j m : ℕ) → has_number m (pending_at (inserted h k n) j) ≡ true → (has_number m (pending_at h j) ≡ true) ⊎ IsNumber g j m
-    from j m has = elim (cases_eq j k) [
-      | inl same ↦
-          (let P : ℕ → Type 0 = λ j. has_number m (pending_at (inserted h k n) j) ≡ true → (has_number m (pending_at h j) ≡ true) ⊎ IsNumber g j m in
-          (subst P (sym same) (λ has. elim (number-from (pending_at h k) n m (ap (has_number m) (sym inserted-own) ∙ has)) [ inl new ↦ inr (subst (λ m. IsNumber g k m) new number) | inr old ↦ inl old ])) has)
-      | inr other ↦ inl (ap (has_number m) (sym (pending-other k (with_number (pending_at h k) n) j other)) ∙ has)
-    ]
+        from : (j m : ℕ) → has_number m (pending_at (inserted h k n) j) ≡ true → (has_number m (pending_at h j) ≡ true) ⊎ IsNumber g j m
+        from j m has = elim (cases_eq j k) [
+          | inl same ↦
+              (let P : ℕ → Type 0 = λ j. has_number m (pending_at (inserted h k n) j) ≡ true → (has_number m (pending_at h j) ≡ true) ⊎ IsNumber g j m in
+              (subst P (sym same) (λ has. elim (number-from (pending_at h k) n m (ap (has_number m) (sym inserted-own) ∙ has)) [ inl new ↦ inr (subst (λ m. IsNumber g k m) new number) | inr old ↦ inl old ])) has)
+          | inr other ↦ inl (ap (has_number m) (sym (pending-other k (with_number (pending_at h k) n) j other)) ∙ has)
+        ]
 
-    bells : (j : ℕ) → j < length g.opened → pending_at (inserted h k n) j ≢ [] → (pending_at h j ≢ [] → OldRung (Insert k n) is refl j) → (j ≡ k) ⊎ (j ≡ k → ⊥) → NewRung (Insert k n) is refl j
-    bells j below some old (inl same) =
-        let B : ℕ → Type 0 = λ j. First (after_control w (Insert k n) said).control.plan.steps (Bell (opened_at g j).bell) in
-        inr (subst B (sym same) (first-now (Insert k n) is refl (Bell (opened_at g k).bell) (safe (Insert k n) is refl).0.1))
-    bells j below some old (inr other) = quiet-rung (Insert k n) is refl j (λ e. absurd cc) (old (λ none. some (pending-other k (with_number (pending_at h k) n) j other ∙ none)))
+        bells : (j : ℕ) → j < length g.opened → pending_at (inserted h k n) j ≢ [] → (pending_at h j ≢ [] → OldRung (Insert k n) is refl j) → (j ≡ k) ⊎ (j ≡ k → ⊥) → NewRung (Insert k n) is refl j
+        bells j below some old (inl same) =
+            let B : ℕ → Type 0 = λ j. First (after_control w (Insert k n) said).control.plan.steps (Bell (opened_at g j).bell) in
+            inr (subst B (sym same) (first-now (Insert k n) is refl (Bell (opened_at g k).bell) (safe (Insert k n) is refl).0.1))
+        bells j below some old (inr other) = quiet-rung (Insert k n) is refl j (λ e. absurd cc) (old (λ none. some (pending-other k (with_number (pending_at h k) n) j other ∙ none)))
 
-    more : (j m : ℕ) → has_number m (pending_at h j) ≡ true → has_number m (pending_at (inserted h k n) j) ≡ true
-    more j m has = elim (cases_eq j k) [
-      | inl same ↦ (let P : ℕ → Type 0 = λ j. has_number m (pending_at h j) ≡ true → has_number m (pending_at (inserted h k n) j) ≡ true in (subst P (sym same) (λ has. ap (has_number m) inserted-own ∙ number-kept (pending_at h k) n m has)) has)
-      | inr other ↦ ap (has_number m) (pending-other k (with_number (pending_at h k) n) j other) ∙ has
-    ]
+        more : (j m : ℕ) → has_number m (pending_at h j) ≡ true → has_number m (pending_at (inserted h k n) j) ≡ true
+        more j m has = elim (cases_eq j k) [
+          | inl same ↦ (let P : ℕ → Type 0 = λ j. has_number m (pending_at h j) ≡ true → has_number m (pending_at (inserted h k n) j) ≡ true in (subst P (sym same) (λ has. ap (has_number m) inserted-own ∙ number-kept (pending_at h k) n m has)) has)
+          | inr other ↦ ap (has_number m) (pending-other k (with_number (pending_at h k) n) j other) ∙ has
+        ]
 
-    by : (q j m x : ℕ) → OldWoken (Insert k n) is refl q j m x → NewWoken (Insert k n) is refl q j m x
-    by q j m x (inl woken) = inl (woken-by _ _ (pending_at h j) (pending_at (inserted h k n) j) (phase_at w.phases j) (phase_at w.phases j) q m (λ above. above) (more j m) (λ has. has) woken)
-    by q j m x (inr (inr first)) = absurd cc
-    by q j m x (inr (inl first)) =
-        let a : k ≡ j = cc in
-        let b : n ≡ m = cc in
-        let P : ℕ → ℕ → Type 0 = λ j m. has_number m (pending_at (inserted h k n) j) ≡ true in
-        inl (waiting (subst (λ m. P j m) b (subst (λ j. P j n) a (ap (has_number n) inserted-own ∙ number-own (pending_at h k) n))))
+        by : (q j m x : ℕ) → OldWoken (Insert k n) is refl q j m x → NewWoken (Insert k n) is refl q j m x
+        by q j m x (inl woken) = inl (woken-by _ _ (pending_at h j) (pending_at (inserted h k n) j) (phase_at w.phases j) (phase_at w.phases j) q m (λ above. above) (more j m) (λ has. has) woken)
+        by q j m x (inr (inr first)) = absurd cc
+        by q j m x (inr (inl first)) =
+            let a : k ≡ j = cc in
+            let b : n ≡ m = cc in
+            let P : ℕ → ℕ → Type 0 = λ j m. has_number m (pending_at (inserted h k n) j) ≡ true in
+            inl (waiting (subst (λ m. P j m) b (subst (λ j. P j n) a (ap (has_number n) inserted-own ∙ number-own (pending_at h k) n))))
 
   -- Rings
 
@@ -595,7 +595,7 @@ module _ {V : Type 0} (w : World V) (calm : ℕ → Bool) (i : Invariant w calm)
       (no_insert : (k n : ℕ) → s ≡ Insert k n → ⊥) (no_delete : (k n : ℕ) → s ≡ Delete k n → ⊥) (no_bell : (o : ℕ) → s ≡ Bell o → ⊥)
       (calms : (q : ℕ) → calm_after w party.Control (play.Control s said) (after_control w s said) calm q ≡ true → calm q ≡ true)
       (own : (j m x : ℕ) → IsPlaced g p j m → r.kick ≡ Some x → is_member (list_at g fr j) x ≡ true → is_on r ≡ true → has_addresses r ≡ true → calm_after w party.Control (play.Control s said) (after_control w s said) calm p ≡ true → has_left h.guest r ≡ true
-        → ((ring_at h p).kick ≡ Some x) × (is_on (ring_at h p) ≡ true) × (has_addresses (ring_at h p) ≡ true) × (has_left h.guest (ring_at h p) ≡ true)) where
+      → ((ring_at h p).kick ≡ Some x) × (is_on (ring_at h p) ≡ true) × (has_addresses (ring_at h p) ≡ true) × (has_left h.guest (ring_at h p) ≡ true)) where
     ring-here : ring_at (with_ring h p r) p ≡ r
     ring-here = ring-own h p r (let e = i.rings_size in omega (arith, e, within))
 
@@ -605,8 +605,8 @@ module _ {V : Type 0} (w : World V) (calm : ℕ → Bool) (i : Invariant w calm)
           | inl same ↦
               (let P : ℕ → Type 0 = λ q. IsPlaced g q j m → (ring_at (with_ring h p r) q).kick ≡ Some x → is_on (ring_at (with_ring h p r) q) ≡ true → has_addresses (ring_at (with_ring h p r) q) ≡ true → calm_after w party.Control (play.Control s said) (after_control w s said) calm q ≡ true → has_left h.guest (ring_at (with_ring h p r) q) ≡ true → OldWoken s is ready q j m x in
               (subst P (sym same) (λ at kick on has calm_now left_one.
-                let was = own j m x at (ap (λ (r : Vring). r.kick) (sym ring-here) ∙ kick) member (ap is_on (sym ring-here) ∙ on) (ap has_addresses (sym ring-here) ∙ has) calm_now (ap (has_left h.guest) (sym ring-here) ∙ left_one) in
-                old-woken s is ready p j m x at goes was.0 member was.1 was.2 (calms p calm_now) was.3)) at kick on has calm_now left_one)
+              let was = own j m x at (ap (λ (r : Vring). r.kick) (sym ring-here) ∙ kick) member (ap is_on (sym ring-here) ∙ on) (ap has_addresses (sym ring-here) ∙ has) calm_now (ap (has_left h.guest) (sym ring-here) ∙ left_one) in
+              old-woken s is ready p j m x at goes was.0 member was.1 was.2 (calms p calm_now) was.3)) at kick on has calm_now left_one)
           | inr other ↦
               (let away = ring-other h p r q other in
               old-woken s is ready q j m x at goes (ap (λ (r : Vring). r.kick) (sym away) ∙ kick) member (ap is_on (sym away) ∙ on) (ap has_addresses (sym away) ∙ has) (calms q calm_now) (ap (has_left h.guest) (sym away) ∙ left_one))
@@ -623,25 +623,25 @@ module _ {V : Type 0} (w : World V) (calm : ℕ → Bool) (i : Invariant w calm)
         (λ k n has. inl (ap (λ (x : Shared V). has_number n (pending_at x k)) (sym written) ∙ has))
         (λ k below some old. quiet-rung s is ready k (λ e. no_bell (opened_at g k).bell e) (old (λ none. some (ap (λ (x : Shared V). pending_at x k) written ∙ none))))
         (λ q j m x at goes kick member on has calm_now left_one.
-          quiet-woken s is ready q j m x (no_insert j m) (no_delete j x) (λ h. ap (λ (x : Shared V). has_number m (pending_at x j)) written ∙ h)
-          (kept q j m x goes at
-            (ap (λ (y : Shared V). (ring_at y q).kick) (sym written) ∙ kick)
-            (same-lists s is ready lists j x member)
-            (ap (λ (y : Shared V). is_on (ring_at y q)) (sym written) ∙ on)
-            (ap (λ (y : Shared V). has_addresses (ring_at y q)) (sym written) ∙ has)
-            calm_now
-            (ap (λ (y : Shared V). has_left y.guest (ring_at y q)) (sym written) ∙ left_one))) where
-      readies_on : (q : ℕ) → (ring_at h q).flight ≡ flight.InFlight → (ring_at h q).queue.ready ≡ true → (ring_at (with_ring h p r) q).queue.ready ≡ true
-      readies_on q flies on = elim (cases_eq q p) [
-        | inl same ↦ (let P : ℕ → Type 0 = λ q. (ring_at h q).flight ≡ flight.InFlight → (ring_at h q).queue.ready ≡ true → (ring_at (with_ring h p r) q).queue.ready ≡ true in (subst P (sym same) (λ flies on. ap (λ (x : Vring). x.queue.ready) ring-here ∙ stays flies on)) flies on)
-        | inr other ↦ ap (λ (x : Vring). x.queue.ready) (ring-other h p r q other) ∙ on
-      ]
+        quiet-woken s is ready q j m x (no_insert j m) (no_delete j x) (λ h. ap (λ (x : Shared V). has_number m (pending_at x j)) written ∙ h)
+        (kept q j m x goes at
+        (ap (λ (y : Shared V). (ring_at y q).kick) (sym written) ∙ kick)
+        (same-lists s is ready lists j x member)
+        (ap (λ (y : Shared V). is_on (ring_at y q)) (sym written) ∙ on)
+        (ap (λ (y : Shared V). has_addresses (ring_at y q)) (sym written) ∙ has)
+        calm_now
+        (ap (λ (y : Shared V). has_left y.guest (ring_at y q)) (sym written) ∙ left_one))) where
+          readies_on : (q : ℕ) → (ring_at h q).flight ≡ flight.InFlight → (ring_at h q).queue.ready ≡ true → (ring_at (with_ring h p r) q).queue.ready ≡ true
+          readies_on q flies on = elim (cases_eq q p) [
+            | inl same ↦ (let P : ℕ → Type 0 = λ q. (ring_at h q).flight ≡ flight.InFlight → (ring_at h q).queue.ready ≡ true → (ring_at (with_ring h p r) q).queue.ready ≡ true in (subst P (sym same) (λ flies on. ap (λ (x : Vring). x.queue.ready) ring-here ∙ stays flies on)) flies on)
+            | inr other ↦ ap (λ (x : Vring). x.queue.ready) (ring-other h p r q other) ∙ on
+          ]
 
-      addressed : (q : ℕ) → has_addresses (ring_at h q) ≡ true → has_addresses (ring_at (with_ring h p r) q) ≡ true
-      addressed q has = elim (cases_eq q p) [
-        | inl same ↦ (let P : ℕ → Type 0 = λ q. has_addresses (ring_at h q) ≡ true → has_addresses (ring_at (with_ring h p r) q) ≡ true in (subst P (sym same) (λ has. ap has_addresses ring-here ∙ addresses has)) has)
-        | inr other ↦ ap has_addresses (ring-other h p r q other) ∙ has
-      ]
+          addressed : (q : ℕ) → has_addresses (ring_at h q) ≡ true → has_addresses (ring_at (with_ring h p r) q) ≡ true
+          addressed q has = elim (cases_eq q p) [
+            | inl same ↦ (let P : ℕ → Type 0 = λ q. has_addresses (ring_at h q) ≡ true → has_addresses (ring_at (with_ring h p r) q) ≡ true in (subst P (sym same) (λ has. ap has_addresses ring-here ∙ addresses has)) has)
+            | inr other ↦ ap has_addresses (ring-other h p r q other) ∙ has
+          ]
 
   never-calm : (p : ℕ) (b c : Bool) (X : Type 0) → not (eqb p p) && b && c ≡ true → X
   never-calm p b c X is = let e = eq-eqb p p refl in let F = ap (λ x. not x && b && c) (sym e) ∙ is in absurd cc
@@ -718,34 +718,34 @@ module _ {V : Type 0} (w : World V) (calm : ℕ → Bool) (i : Invariant w calm)
   by-set q (op.SetEnabled false) is ready fits = set-close q (op.SetEnabled false) is ready (λ p c. calm-of false (calm p) _ c) (λ j m x at kick member on has c left_one. absurd (and-none (ring_at h q).queue.ready on))
   by-set q (op.SetEnabled true) is ready (inl was) = set-close q (op.SetEnabled true) is ready (λ p c. calm-of false (calm p) _ c)
       (λ j m x at kick member on has c left_one.
-        let e : (ring_at h q).enabled ≡ true = ap (λ (k : Known). k.enabled) (sym (known-ring h q)) ∙ was in
-        (kick, ap (λ b. (ring_at h q).queue.ready && b) e ∙ on, has, left_one))
+      let e : (ring_at h q).enabled ≡ true = ap (λ (k : Known). k.enabled) (sym (known-ring h q)) ∙ was in
+      (kick, ap (λ b. (ring_at h q).queue.ready && b) e ∙ on, has, left_one))
   by-set q (op.SetEnabled true) is ready (inr quiet) = set-close q (op.SetEnabled true) is ready (λ p c. calm-of false (calm p) _ c) (λ j m x at kick member on has c left_one. absurd (quiet-not q quiet j m x at kick member))
   by-set q (op.SetReady false) is ready fits =
       set-close q (op.SetReady false) is ready (λ p c. calm-of false (calm p) _ c)
       (λ j m x at kick member on has c left_one. let off : is_on (changed (ring_at h q) (op.SetReady false)) ≡ true = ap (λ b. is_on (cond (not b && true) (changed (ring_at h q) (op.SetReady false)) (ring_at h q))) (sym ready) ∙ on in absurd cc)
   by-set q (op.SetReady true) is ready (inl was) = set-close q (op.SetReady true) is ready (λ p c. calm-of false (calm p) _ c)
       (λ j m x at kick member on has c left_one.
-        let e : (ring_at h q).queue.ready ≡ true = ap (λ (k : Known). k.ready) (sym (known-ring h q)) ∙ was in
-        (kick, ap (λ b. b && (ring_at h q).enabled) e ∙ on, has, left_one))
+      let e : (ring_at h q).queue.ready ≡ true = ap (λ (k : Known). k.ready) (sym (known-ring h q)) ∙ was in
+      (kick, ap (λ b. b && (ring_at h q).enabled) e ∙ on, has, left_one))
   by-set q (op.SetReady true) is ready (inr quiet) = set-close q (op.SetReady true) is ready (λ p c. calm-of false (calm p) _ c) (λ j m x at kick member on has c left_one. absurd (quiet-not q quiet j m x at kick member))
   by-set q (op.SetKick new) is ready (inl same) = set-close q (op.SetKick new) is ready (λ p c. calm-of false (calm p) _ c)
       (λ j m x at kick member on has c left_one. (sym (kick-ring h q) ∙ (same ∙ kick), on, has, left_one))
   by-set q (op.SetKick new) is ready (inr fresh) = set-close q (op.SetKick new) is ready (λ p c. calm-of false (calm p) _ c)
       (λ j m x at kick member on has c left_one.
-        let none = unclaimed-other g fr i.wired i.linked j x q (i.wired.placed q j m at) (fresh.1 x kick) (λ was. quiet-not q fresh.0 j m x at (sym (kick-ring h q) ∙ was) member) in
-        absurd cc)
+      let none = unclaimed-other g fr i.wired i.linked j x q (i.wired.placed q j m at) (fresh.1 x kick) (λ was. quiet-not q fresh.0 j m x at (sym (kick-ring h q) ∙ was) member) in
+      absurd cc)
 
   by-table : (change : _) → (is : w.control.plan.steps ≡ Table change ∷ left.steps) → Invariant (after_control w (Table change) said) (calm_after w party.Control (play.Control (Table change) said) (after_control w (Table change) said) calm)
   by-table change is =
       close (Table change) is refl refl refl (λ q. refl) (λ q has. has) (λ q flies on. on) (λ k n has. inl has)
       (λ k below some old. quiet-rung (Table change) is refl k (λ e. absurd cc) (old some))
       (λ q j m x at goes kick member on has calm_now left_one. by q j m x at goes kick (same-lists (Table change) is refl refl j x member) on has (table_refusal h.guest change) refl calm_now left_one) where
-    by : (q j m x : ℕ) → IsPlaced g q j m → (HasStopped (phase_at w.phases j) → ⊥) → (ring_at h q).kick ≡ Some x → is_member (list_at g fr j) x ≡ true → is_on (ring_at h q) ≡ true → has_addresses (ring_at h q) ≡ true → (e : Option MemError) → table_refusal h.guest change ≡ e
-        → not (not (is_some e)) && calm q && eqb (index_word (small_after g h (Table change)) q) (index_word h q) ≡ true → has_left (record h.guest { regions = regions_unless e (regions_after h.guest.regions change) h.guest.regions }) (ring_at h q) ≡ true → NewWoken (Table change) is refl q j m x
-    by q j m x at goes kick member on has None refusal calm_now left_one = absurd cc
-    by q j m x at goes kick member on has (Some e) refusal calm_now left_one =
-        quiet-woken (Table change) is refl q j m x (λ e. absurd cc) (λ e. absurd cc) (λ h. h) (old-woken (Table change) is refl q j m x at goes kick member on has (calm-of false (calm q) _ calm_now) left_one)
+        by : (q j m x : ℕ) → IsPlaced g q j m → (HasStopped (phase_at w.phases j) → ⊥) → (ring_at h q).kick ≡ Some x → is_member (list_at g fr j) x ≡ true → is_on (ring_at h q) ≡ true → has_addresses (ring_at h q) ≡ true → (e : Option MemError) → table_refusal h.guest change ≡ e
+            → not (not (is_some e)) && calm q && eqb (index_word (small_after g h (Table change)) q) (index_word h q) ≡ true → has_left (record h.guest { regions = regions_unless e (regions_after h.guest.regions change) h.guest.regions }) (ring_at h q) ≡ true → NewWoken (Table change) is refl q j m x
+        by q j m x at goes kick member on has None refusal calm_now left_one = absurd cc
+        by q j m x at goes kick member on has (Some e) refusal calm_now left_one =
+            quiet-woken (Table change) is refl q j m x (λ e. absurd cc) (λ e. absurd cc) (λ h. h) (old-woken (Table change) is refl q j m x at goes kick member on has (calm-of false (calm q) _ calm_now) left_one)
 
   by-kind : (s : Small) → w.control.plan.steps ≡ s ∷ left.steps → waits_now h s ≡ false → Invariant (after_control w s said) (calm_after w party.Control (play.Control s said) (after_control w s said) calm)
   by-kind (Claim x p) is ready = quiet-close (Claim x p) is ready refl refl refl (λ q k n o below at kick member c. still (Claim x p) is ready refl q k n o member (calm-of false (calm q) _ c)) (λ k n e. absurd cc) (λ k o below e member. absurd cc) (λ o e. absurd cc)

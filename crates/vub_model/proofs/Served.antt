@@ -178,7 +178,8 @@ served-turn {V} m w calm p z calls i flow numbered =
     (λ same. (subst (λ c. Flow z (calls ++ c)) (sym (asked-pass m w p)) (subst (λ c. Flow z c) (sym (append-nil calls)) (subst (λ (x : World V). Flow x calls) (sym same) flow)), subst (λ (x : World V). Numbered x) (sym same) numbered))
     (λ l may is. (
       subst (λ (x : World V). Flow x (calls ++ asked_at m w p l)) (sym is) (flow-step m w calls flow (invariant-owned w calm i) (λ s said ok q. flight-small w calm i s said ok q) p l may),
-      subst (λ (x : World V). Numbered x) (sym is) (number-step m w numbered (λ s said ok. number-small w calm i numbered s said ok) p l may)))
+      subst (λ (x : World V). Numbered x) (sym is) (number-step m w numbered (λ s said ok. number-small w calm i numbered s said ok) p l may),
+    ))
 
 served-run : {V : Type 0} (m : Meaning V) (turns : List ℕ) (labels : List Play) (w z : World V) (calm : ℕ → Bool) (calls : List Asked) → IsFew w (length turns) → Invariant w calm → Flow w calls → Numbered w → IsRun m turns labels w z
     → Flow z (calls ++ asked m turns labels w) × Numbered z × Owned z

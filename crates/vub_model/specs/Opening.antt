@@ -25,6 +25,7 @@ use Rattle.vub_model.specs.ValidSetup.{contents_from, given_region}
 use Rattle.vub_model.specs.Shared.{Shared, raised, inserted}
 use Rattle.vub_mem.specs.declared.mapping.Mapping.{Mapping}
 use Rattle.vub_proto.specs.declared.answer.Answer.TheVariants as answer
+use Rattle.vub_proto.specs.declared.request.Request.{Request}
 use Rattle.vub_model.specs.declared.session.Session.{Session}
 use Rattle.vub_model.specs.declared.setup.GivenRegion.{GivenRegion}
 use Rattle.vub_model.specs.Plans.{says}
@@ -137,11 +138,15 @@ opening_held constants setup service =
 abbrev pub mapping_of : GivenRegion → Mapping
 mapping_of r = record { user = r.user; len = r.len; start = r.start }
 
+-- what control is asked, one request after the other: a set-up names no requests yet
+abbrev pub requests_of : Setup → List Request
+requests_of setup = []
+
 -- no request was begun, and the session has the mappings of the given regions
 abbrev pub new_control : Setup → Control
 new_control setup =
     let s : Session = record { owned = false; features = 0; protocol = 0; mappings = map mapping_of setup.regions } in
-    record { session = s; plan = record { steps = []; reply = says answer.Ok; session = s }; requests = setup.requests; answers = [] }
+    record { session = s; plan = record { steps = []; reply = says answer.Ok; session = s }; requests = requests_of setup; answers = [] }
 
 -- the first request begins
 abbrev pub opening_control : {V : Type 0} → Constants → Setup → V → Control

@@ -54,4 +54,4 @@ InOrder g plan [] played = (left : Plan) × IsPlayed played plan left
 InOrder g plan (r ∷ requests) played =
     ((left : Plan) × IsPlayed played plan left)
     ⊎ ((first : List Small) × (more : List Small) × (f : Frame) × (regions : List Region) × (s : Session) × (end : Plan) ×
-      (played ≡ first ++ more) × IsPlayed first plan end × (end.steps ≡ []) × InOrder g (plan_of g f regions s r) requests more)
+    (played ≡ first ++ more) × IsPlayed first plan end × (end.steps ≡ []) × InOrder g (plan_of g f regions s r) requests more)

@@ -17,8 +17,6 @@ use Rattle.vub_model.specs.declared.setup.GivenRing.{GivenRing}
 use Rattle.vub_model.specs.declared.setup.Info.{Info}
 use Rattle.vub_model.specs.declared.setup.Setup.{Setup}
 use Rattle.vub_model.specs.declared.constants.Constants.{Constants}
-use Rattle.vub_proto.specs.declared.request.Request.{Request}
-use Rattle.vub_proto.specs.declared.request.Request.TheVariants as request
 use Rattle.vub_model.specs.Work.{is_object}
 
 -- the first fault of the two
@@ -148,28 +146,6 @@ guest_fault objects guest =
     or_else (option_map (λ i. setup_fault.Guest i) (first_impossible objects (take 1048576 guest)))
     (if nat_lt 1048576 (length guest) then Some (setup_fault.Guest 1048576) else None)
 
--- whether the objects and the worker that a request names are there, and of the right kind
-unfoldable pub is_answerable : Constants → List Object → Request → Bool
-is_answerable constants objects (request.SetVringKick queue event) = is_event_or_none objects event
-is_answerable constants objects (request.SetVringCall queue event) = is_event_or_none objects event
-is_answerable constants objects (request.SetVringErr queue event) = is_event_or_none objects event
-is_answerable constants objects (request.SetMemTable parts contents flag) = list_all (λ o. is_some (content_len objects o)) contents
-is_answerable constants objects (request.AddMemRegion part content flag) = is_some (content_len objects content)
-is_answerable constants objects (request.SetLogBase size offset object) = false
-is_answerable constants objects (request.SetBackendReqFd object) = nat_lt object (length objects)
-is_answerable constants objects (request.SetGpuSocket object) = nat_lt object (length objects)
-is_answerable constants objects (request.SetDeviceStateFd direction phase object) = nat_lt object (length objects)
-is_answerable constants objects (request.SetInflightFd object) = nat_lt object (length objects)
-is_answerable constants objects (request.RegisterListener worker event set token) = is_event objects event && nat_lt worker (length constants.masks)
-is_answerable constants objects (request.UnregisterListener worker event set token) = is_event objects event && nat_lt worker (length constants.masks)
-is_answerable constants objects r = true
-
--- the first request that names what is not there, from this number on
-unfoldable pub request_fault : Constants → List Object → ℕ → List Request → Option SetupFault
-request_fault constants objects i [] = None
-request_fault constants objects i (r ∷ requests) =
-    if is_answerable constants objects r then request_fault constants objects (i + 1) requests else Some (setup_fault.Request i)
-
 -- the first test that a set-up fails, for a device with these constants
 unfoldable pub fault_of : Constants → Setup → Option SetupFault
 fault_of constants setup =
@@ -177,8 +153,7 @@ fault_of constants setup =
     (or_else (region_fault setup.objects setup.regions)
     (or_else (given_table_fault setup.objects setup.regions)
     (or_else (ring_fault constants setup.objects [] setup.rings)
-    (or_else (request_fault constants setup.objects 0 setup.requests)
-    (guest_fault setup.objects setup.guest)))))
+    (guest_fault setup.objects setup.guest))))
 
 abbrev pub IsValid : Constants → Setup → Type 0
 IsValid constants setup = fault_of constants setup ≡ None

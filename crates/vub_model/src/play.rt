@@ -1,5 +1,5 @@
-use vub_proto::DeviceSaid;
 use crate::small::Small;
+use vub_proto::DeviceSaid;
 
 /// A label with what a device call of that step answered.
 #[derive(Debug, Drop)]

@@ -1,4 +1,3 @@
-use vub_proto::Request;
 use vub_base::{Bytes, Listed};
 
 /// An object of a set-up. Object `i` of the list has number `i`.
@@ -73,8 +72,6 @@ pub struct Setup {
     pub objects: Listed<Object>,
     pub regions: Listed<GivenRegion>,
     pub rings: Listed<GivenRing>,
-    /// What control is asked, one request after the other.
-    pub requests: Listed<Request>,
     /// What the guest does, one action a turn.
     pub guest: Listed<Guest>,
 }

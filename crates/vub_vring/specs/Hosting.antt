@@ -38,4 +38,4 @@ CountsOver h old new result =
 
 -- what a call says, and leaves of the table that this host tells
 abbrev pub PlaysOver : {H T : Type 0} → Host H → H → H → Result T PartsError → (T → HostTable → HostTable → Type 0) → Type 0
-PlaysOver h old new result R = OnTable result (h.shared old) (h.shared new) R
+PlaysOver h old new result R = OnTable result (h.held old) (h.held new) R
