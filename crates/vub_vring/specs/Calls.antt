@@ -1,6 +1,7 @@
 -- What each call of `Parts` says and leaves, as a relation of what is held before and after. Each is one row of the
 -- machine's steps, or a small step of one of its parts.
 use Rattle.std.specs.Prelude.{◌≡◌, ◌⊎◌, ℕ, Bool, true, false, List, Option, Result, Ok, Err}
+use Rattle.vub_base.specs.Causes.{Rose}
 use Rattle.vub_base.specs.Told.{Told}
 use Rattle.vub_event.specs.HostTable.{HostTable}
 use Rattle.vub_event.specs.HostCalls.{CreateEventCall, CreateListCall, SignalCall, ConsumeCall, AddCall, DeleteCall, ListenCall, UnlistenCall, ConsumeAsCall, FirstReadyCall, ClaimCall, release_after, member_for}
@@ -13,6 +14,11 @@ use Rattle.vub_model.specs.declared.ring_op.RingSaid.{RingSaid}
 use Rattle.vub_model.specs.RingRecord.{ring_said, ring_after, is_on}
 use Rattle.vub_model.specs.EntryNumber.{next_number}
 use Rattle.vub_model.specs.Shared.{Shared, ring_at, with_ring, counter_read, inserted, removed, swept, pending_at}
+use Rattle.vub_proto.specs.declared.device_op.DeviceOp.{DeviceOp}
+use Rattle.vub_proto.specs.declared.device_op.DeviceOp.TheVariants as device
+use Rattle.vub_proto.specs.declared.device_said.DeviceSaid.{DeviceSaid}
+use Rattle.vub_proto.specs.declared.device_said.DeviceSaid.TheVariants as outcome
+use Rattle.vub_model.specs.DeviceCalls.{Telling}
 use Rattle.vub_model.specs.Service.{Meaning}
 use Rattle.vub_model.specs.Work.{is_object, looked, after_none, put_said, used, called}
 use Rattle.vub_ring.specs.declared.ops.TableRing.{TableRing}
@@ -131,3 +137,20 @@ IsSaid s = Unit {0}
 
 abbrev pub HostCall : {V : Type 0} → HostOp → HostSaid → Shared V → Shared V → Type 0
 HostCall o s old new = HostTableCall o s old.table new.table × (new ≡ record old { table = new.table })
+
+-- `device`: the device says what it means to say at this call, and leaves the value that it means to leave
+abbrev pub DeviceCall : {D : Type 0} → Telling D → DeviceOp → DeviceSaid → D → D → Type 0
+DeviceCall t o s old new = (s ≡ t.said old o) × (new ≡ t.moved old o)
+
+abbrev pub telling : {D : Type 0} → (D → DeviceOp → DeviceSaid) → (D → DeviceOp → D) → Telling D
+telling said moved = record { said = said; moved = moved }
+
+-- a refusal of the device is said only where its count rose
+abbrev pub IsCounted : ℕ → ℕ → DeviceSaid → Type 0
+IsCounted before now (outcome.Refused n) = Rose before now
+IsCounted before now s = Unit {0}
+
+-- the call of a device that may want memory
+abbrev pub gives_content : DeviceOp → Bool
+gives_content (device.GetConfig offset size) = true
+gives_content o = false

@@ -82,8 +82,10 @@ pub record OpensBy {T : Type 0} (before now : ℕ) (Sound StillSound : Type 0) (
   pub sound : Sound → IfErr result (λ e. e ≡ OutOfMemory)
 
 -- what opening a worker, or a step to it, leaves of the parts
-pub record KeepsOpening {V T : Type 0} (old new : PartsState V) (result : Result T VringEpollError) : Type 0 where
+pub record KeepsOpening {V D T : Type 0} (old new : PartsState V D) (result : Result T VringEpollError) : Type 0 where
   pub faults : OpensBy old.faults new.faults old.NeverFails new.NeverFails result
+  pub device : new.device ≡ old.device
+  pub refusals : new.refusals ≡ old.refusals
   pub loan : new.loan ≡ old.loan
   pub constants : new.constants ≡ old.constants
 

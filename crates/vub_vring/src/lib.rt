@@ -2,6 +2,7 @@
 #![tactic(auto)]
 
 mod acting;
+mod asking;
 mod hosting;
 mod opening;
 mod ops;
@@ -9,6 +10,7 @@ mod owned;
 mod parts;
 mod store;
 
+pub use asking::play_device;
 pub use hosting::play_host;
 pub use opening::open_worker;
 pub use ops::{HostOp, HostSaid};

@@ -1,6 +1,7 @@
-ghost use Rattle.std.specs.Prelude.{◌≡◌, [], Some};
+ghost use Rattle.std.specs.Prelude.{◌≡◌, [], ◌∷◌, Some};
 ghost use Rattle.vub_vring.specs.Store.{shared_of};
 
+use crate::asking::play_device;
 use crate::ops::{HostOp, HostSaid};
 use crate::parts::Parts;
 use crate::store::{Store, copy_constants, host_at, kick_at, pend_at, put_at, ring_at, take_at};
@@ -9,30 +10,39 @@ use vub_base::{Bytes, OutOfMemory};
 use vub_event::Host;
 use vub_mem::DirtyLog;
 use vub_model::{Constants, Entry, RingOp, RingSaid};
-use vub_proto::Service;
+use vub_proto::{DeviceOp, DeviceSaid, Service, VhostUserBackendMut};
 use vub_ring::{KickSaid, PartsError, PendOp, PendSaid, PutSaid, TableRing, TableRingSaid};
 
 /// All parts, lent: they tell what they hold. They own no memory, so that what is lent comes back known.
 #[derive(Drop)]
-pub struct OwnedParts<'a, L: DirtyLog, V> {
+pub struct OwnedParts<'a, L: DirtyLog, D, V> {
     pub store: &'a mut Store<L>,
+    pub device: &'a mut D,
     pub service: &'a mut V,
     pub constants: &'a Constants,
 }
 
-impl<'a, L: DirtyLog, V: Service> Parts for OwnedParts<'a, L, V> {
+impl<'a, L: DirtyLog, D: VhostUserBackendMut, V: Service> Parts for OwnedParts<'a, L, D, V> {
     type Service = V;
+
+    type Device = D;
 
     ghost state = { λ p. record {
       shared = Some (shared_of p.store.now p.service.now);
+      device = D.value p.device.now;
       faults = p.store.now.host.plan.faults;
+      refusals = D.refusal_count p.device.now;
       NeverFails = p.store.now.host.plan.calls.items ≡ [];
-      loan = (p.store.ghost_name, p.service.ghost_name);
+      loan = p.store.ghost_name ∷ p.device.ghost_name ∷ p.service.ghost_name ∷ [];
       constants = Some p.constants.now;
     } };
 
     fn faults(&self) -> u64 {
         self.store.host.faults()
+    }
+
+    fn refusals(&self) -> u64 {
+        self.device.refusals()
     }
 
     #[tactic(auto, using(crate::proofs::Holding::ring_row, crate::proofs::Holding::quiet_counts))]
@@ -65,13 +75,7 @@ impl<'a, L: DirtyLog, V: Service> Parts for OwnedParts<'a, L, V> {
     }
 
     #[tactic(auto, using(crate::proofs::Holding::put_row, crate::proofs::Holding::put_sound))]
-    fn put(
-        &mut self,
-        alloc: Global,
-        _queue: u32,
-        entry: &Entry,
-        reply: &[u8],
-    ) -> Result<PutSaid, PartsError> {
+    fn put(&mut self, alloc: Global, entry: &Entry, reply: &[u8]) -> Result<PutSaid, PartsError> {
         let store = &mut *self.store;
         put_at(
             alloc,
@@ -101,6 +105,10 @@ impl<'a, L: DirtyLog, V: Service> Parts for OwnedParts<'a, L, V> {
             Ok(reply) => Ok(reply),
             Err(_) => Err(PartsError::OutOfMemory),
         }
+    }
+
+    fn device(&mut self, alloc: Global, op: DeviceOp) -> Result<DeviceSaid, PartsError> {
+        play_device(alloc, self.device, op)
     }
 
     fn constants(&mut self, alloc: Global) -> Result<Constants, OutOfMemory> {

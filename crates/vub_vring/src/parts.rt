@@ -1,32 +1,40 @@
 ghost use Rattle.std.specs.Prelude.{◌≡◌, ◌≤◌, ℕ, length, sum_by, IfOk, IsErrOf, IsTrue};
 ghost use Rattle.std.specs.Option.{ForSome};
+ghost use Rattle.vub_model.specs.Control.{IsOutcome};
 ghost use Rattle.vub_model.specs.Service.{meaning};
 ghost use Rattle.vub_ring.specs.Play.{HasRoom, inserts};
-ghost use Rattle.vub_vring.specs.Calls.{RingCall, TableRingCall, KickCall, PutCall, PutTried, PendCall, ServiceCall, HostCall, IsSaid, takes_memory};
-ghost use Rattle.vub_vring.specs.PartsState.{PartsState, HasFailed, IsCall, Keeps, IsUntouched};
+ghost use Rattle.vub_vring.specs.Calls.{RingCall, TableRingCall, KickCall, PutCall, PutTried, PendCall, ServiceCall, HostCall, IsSaid, takes_memory, DeviceCall, telling, IsCounted, gives_content};
+ghost use Rattle.vub_vring.specs.PartsState.{PartsState, HasFailed, IsCall, IsDeviceCall, WaitsWhereTold, Keeps, KeepsShared, IsUntouched};
 
 use crate::ops::{HostOp, HostSaid};
 use std::alloc::Global;
 use vub_base::{Bytes, OutOfMemory};
 use vub_model::{Constants, Entry, RingOp, RingSaid};
-use vub_proto::Service;
+use vub_proto::{DeviceOp, DeviceSaid, Service, VhostUserBackendMut};
 use vub_ring::{KickSaid, PartsError, PendOp, PendSaid, PutSaid, TableRing, TableRingSaid};
 
 /// The parts that guest, control and workers share: rings, guest memory, the host, pending sets, the device and the
 /// service. Each call is one hold of the parts that it touches, and one step of the machine.
 ///
 /// Parts may tell what they hold, and then each call says and leaves what its definition says. Told or not, a call that
-/// is not made changes nothing, and a fault of the host comes only where its count rose. A queue or a worker that is not
-/// there is as a closed ring, and as an empty pending set that stays empty.
+/// is not made changes nothing, a fault of the host comes only where its count rose, and so does a refusal of the device. A
+/// queue or a worker that is not there is as a closed ring, and as an empty pending set that stays empty. Parts that tell
+/// nothing do not answer that a change has to wait: they wait by themselves.
 pub trait Parts {
     type Service: Service;
 
+    type Device: VhostUserBackendMut;
+
     // what they tell of themselves; no call changes what is lent or the constants
-    ghost state: { Self → PartsState Self.Service };
+    ghost state: { Self → PartsState Self.Service Self.Device };
 
     /// How many calls of the host have failed. The count never falls.
     fn faults(&self) -> u64
         ensures { result ≡ (state self.now).faults };
+
+    /// How many of its calls the device has refused. The count never falls.
+    fn refusals(&self) -> u64
+        ensures { result ≡ (state self.now).refusals };
 
     /// Applies an op to a ring (`VringState` of the Rust crate `vhost-user-backend`).
     ///
@@ -34,6 +42,7 @@ pub trait Parts {
     /// Want of memory.
     fn ring(&mut self, alloc: Global, queue: u32, op: RingOp) -> Result<RingSaid, PartsError>
         ensures row { IsCall (state self.old) (state self.new) result (RingCall queue op) }
+        ensures waits { WaitsWhereTold (state self.old) result }
         ensures only { ¬ (IsErrOf result PartsError.Fault) }
         ensures frame { Keeps (state self.old) (state self.new) result };
 
@@ -66,14 +75,7 @@ pub trait Parts {
     ///
     /// # Errors
     /// Want of memory.
-    fn put(
-        &mut self,
-        alloc: Global,
-        queue: u32,
-        entry: &Entry,
-        reply: &[u8],
-    ) -> Result<PutSaid, PartsError>
-        requires queue { queue ≡ entry.now.queue }
+    fn put(&mut self, alloc: Global, entry: &Entry, reply: &[u8]) -> Result<PutSaid, PartsError>
         requires fits { length reply.now ≤ entry.now.chain.room }
         requires room { entry.now.chain.room ≡ sum_by (λ s. s.len) entry.now.chain.segments }
         ensures row { IsCall (state self.old) (state self.new) result
@@ -113,6 +115,19 @@ pub trait Parts {
         ensures fits { IfOk result (λ reply. length reply ≤ entry.now.chain.room) }
         ensures only { ¬ (IsErrOf result PartsError.Fault) }
         ensures frame { Keeps (state self.old) (state self.new) result };
+
+    /// Makes this call of the device.
+    ///
+    /// # Errors
+    /// Want of memory, at a `GetConfig` alone.
+    fn device(&mut self, alloc: Global, op: DeviceOp) -> Result<DeviceSaid, PartsError>
+        ensures row { IsDeviceCall (state self.old) (state self.new) result
+            (DeviceCall (telling Self.Device.said Self.Device.moved) op) }
+        ensures said { IfOk result (IsOutcome op) }
+        ensures counted { IfOk result (IsCounted (state self.old).refusals (state self.new).refusals) }
+        ensures memory { IsErrOf result PartsError.OutOfMemory → IsTrue (gives_content op) }
+        ensures only { ¬ (IsErrOf result PartsError.Fault) }
+        ensures frame { KeepsShared (state self.old) (state self.new) result };
 
     /// The device's constants.
     ///

@@ -1,5 +1,5 @@
 //! Parts that tell nothing of what they hold, as those behind locks.
-ghost use Rattle.std.specs.Prelude.{None};
+ghost use Rattle.std.specs.Prelude.{[], None};
 
 use crate::ops::{HostOp, HostSaid};
 use crate::owned::OwnedParts;
@@ -8,23 +8,27 @@ use std::alloc::Global;
 use vub_base::{Bytes, OutOfMemory};
 use vub_mem::DirtyLog;
 use vub_model::{Constants, Entry, RingOp, RingSaid};
-use vub_proto::Service;
+use vub_proto::{DeviceOp, DeviceSaid, Service, VhostUserBackendMut};
 use vub_ring::{KickSaid, PartsError, PendOp, PendSaid, PutSaid, TableRing, TableRingSaid};
 
-/// Parts that tell nothing. They pass each call on.
+/// Parts that tell nothing. They pass each call on. A change that has to wait is not made, and they answer that it was.
 #[derive(Drop)]
-pub(crate) struct SilentParts<'a, L: DirtyLog, V> {
-    pub inner: OwnedParts<'a, L, V>,
+pub(crate) struct SilentParts<'a, L: DirtyLog, D, V> {
+    pub inner: OwnedParts<'a, L, D, V>,
 }
 
-impl<'a, L: DirtyLog, V: Service> Parts for SilentParts<'a, L, V> {
+impl<'a, L: DirtyLog, D: VhostUserBackendMut, V: Service> Parts for SilentParts<'a, L, D, V> {
     type Service = V;
+
+    type Device = D;
 
     ghost state = { λ p. record {
       shared = None;
+      device = None;
       faults = p.inner.store.now.host.plan.faults;
+      refusals = D.refusal_count p.inner.device.now;
       NeverFails = ⊥;
-      loan = (0, 0);
+      loan = [];
       constants = None;
     } };
 
@@ -32,8 +36,15 @@ impl<'a, L: DirtyLog, V: Service> Parts for SilentParts<'a, L, V> {
         self.inner.faults()
     }
 
+    fn refusals(&self) -> u64 {
+        self.inner.refusals()
+    }
+
     fn ring(&mut self, alloc: Global, queue: u32, op: RingOp) -> Result<RingSaid, PartsError> {
-        self.inner.ring(alloc, queue, op)
+        match self.inner.ring(alloc, queue, op)? {
+            RingSaid::Waits => Ok(RingSaid::Done),
+            said => Ok(said),
+        }
     }
 
     fn ring_table(
@@ -54,14 +65,8 @@ impl<'a, L: DirtyLog, V: Service> Parts for SilentParts<'a, L, V> {
         self.inner.ring_host(alloc, queue, object)
     }
 
-    fn put(
-        &mut self,
-        alloc: Global,
-        queue: u32,
-        entry: &Entry,
-        reply: &[u8],
-    ) -> Result<PutSaid, PartsError> {
-        self.inner.put(alloc, queue, entry, reply)
+    fn put(&mut self, alloc: Global, entry: &Entry, reply: &[u8]) -> Result<PutSaid, PartsError> {
+        self.inner.put(alloc, entry, reply)
     }
 
     fn host(&mut self, alloc: Global, op: HostOp) -> Result<HostSaid, PartsError> {
@@ -74,6 +79,10 @@ impl<'a, L: DirtyLog, V: Service> Parts for SilentParts<'a, L, V> {
 
     fn service(&mut self, alloc: Global, entry: &Entry) -> Result<Bytes, PartsError> {
         self.inner.service(alloc, entry)
+    }
+
+    fn device(&mut self, alloc: Global, op: DeviceOp) -> Result<DeviceSaid, PartsError> {
+        self.inner.device(alloc, op)
     }
 
     fn constants(&mut self, alloc: Global) -> Result<Constants, OutOfMemory> {
