@@ -29,15 +29,15 @@ use Rattle.vub_model.specs.Service.{Meaning}
 use Rattle.vub_model.specs.World.{World, May, after, after_guest, phase_at, take_of, takes_by}
 use Rattle.vub_model.specs.RunOf.{party_of, next, IsRun}
 use Rattle.vub_model.specs.Running.{calm_after}
-use Rattle.vub_model.specs.Headline.{takes_of, numbers, count_up, Numbered, RingNumbered, IsFresh}
+use Rattle.vub_model.specs.Headline.{takes_of, IsFresh}
 use Rattle.vub_model.specs.Schedule.{Fits, SetFits, Invariant}
-use Rattle.vub_model.specs.Bases.{given_by, bases_given, FromBases}
+use Rattle.vub_model.specs.Bases.{given_by, bases_given, numbers, count_up}
 use Rattle.vub_model.proofs.Cases.{work-cases, event-shared, take-leaf, none-leaf, said-cases}
 use Rattle.vub_model.proofs.Turns.{turn-cases, turn-next}
 use Rattle.vub_model.proofs.Live.{looked-live, live-taken, serving-takes}
 use Rattle.vub_model.proofs.Counting.{field-kept, ring-own, ring-other}
 use Rattle.vub_model.proofs.FlowSteps.{pushed, left_out}
-use Rattle.vub_model.proofs.Numbers.{numbers-other, number-step, fresh-numbered}
+use Rattle.vub_model.proofs.Numbers.{RingNumbered, Numbered, numbers-other, number-step, fresh-numbered}
 use Rattle.vub_model.proofs.SchedControl.{first-fits}
 use Rattle.vub_model.proofs.SchedRuns.{IsFew, invariant-turn, few-turn}
 use Rattle.vub_model.proofs.Served.{number-small}
@@ -48,9 +48,15 @@ use Rattle.vub_model.specs.Opening.{opening, is_registered}
 use Rattle.vub_model.proofs.Openings.{opening-is-fresh}
 use Rattle.vub_model.proofs.OpeningMeets.{opening-meets, opening-untaken}
 
--- Each queue has its bases
+-- The ring has the last of these bases, one for each epoch, and the takes of each earlier epoch are numbered on from its.
+pub record HasBases (bases : List ℕ) (r : Vring) (takes : List Take) : Type 0 where
+  pub count : length bases ≡ r.epoch + 1
+  pub last : slice_index_or bases r.epoch 0 ≡ r.base
+  pub each : (e : ℕ) → e < r.epoch → (n : ℕ) × (numbers e takes ≡ count_up (slice_index_or bases e 0) n)
+
+-- each queue has its bases
 abbrev pub AllFrom : {V : Type 0} → World V → (ℕ → List ℕ) → Type 0
-AllFrom w bases = (q : ℕ) → FromBases (bases q) (ring_at w.shared q) (takes_of q w.takes)
+AllFrom w bases = (q : ℕ) → HasBases (bases q) (ring_at w.shared q) (takes_of q w.takes)
 
 -- epoch and base stay, and no take is added to an earlier epoch
 pub record Stays (old new : Vring) (takes more : List Take) : Type 0 where
@@ -58,7 +64,7 @@ pub record Stays (old new : Vring) (takes more : List Take) : Type 0 where
   pub base : new.base ≡ old.base
   pub past : (e : ℕ) → e < old.epoch → numbers e more ≡ numbers e takes
 
-stays-from : (bases : List ℕ) (old new : Vring) (takes more : List Take) → Stays old new takes more → FromBases bases old takes → FromBases bases new more
+stays-from : (bases : List ℕ) (old new : Vring) (takes more : List Take) → Stays old new takes more → HasBases bases old takes → HasBases bases new more
 stays-from bases old new takes more s from = record {
   count = from.count ∙ ap (λ e. e + 1) (sym s.epoch);
   last = ap (λ e. slice_index_or bases e 0) s.epoch ∙ (from.last ∙ sym s.base);
@@ -123,7 +129,7 @@ module _ {V : Type 0} (g : Wiring) (h : Shared V) (takes : List Take) where
       put-stays
 
 -- a new base begins a new epoch
-new-epoch : (bases : List ℕ) (r : Vring) (takes : List Take) (n : ℕ) → RingNumbered r takes → FromBases bases r takes → FromBases (bases ++ n ∷ []) (record r { epoch = r.epoch + 1; base = n }) takes
+new-epoch : (bases : List ℕ) (r : Vring) (takes : List Take) (n : ℕ) → RingNumbered r takes → HasBases bases r takes → HasBases (bases ++ n ∷ []) (record r { epoch = r.epoch + 1; base = n }) takes
 new-epoch bases r takes n at from = record {
   count = length-append bases (n ∷ []) ∙ ap (λ x. x + 1) from.count;
   last = get_or_at bases n [] 0 (r.epoch + 1) from.count;
@@ -157,20 +163,20 @@ module _ {V : Type 0} (w : World V) (calm : ℕ → Bool) (i : Invariant w calm)
   h = w.shared
 
   abbrev Now : Small → DeviceSaid → ℕ → Type 0
-  Now s said q = FromBases (bases q ++ given_by w party.Control (play.Control s said) q) (ring_at (small_after w.wiring h s) q) (takes_of q w.takes)
+  Now s said q = HasBases (bases q ++ given_by w party.Control (play.Control s said) q) (ring_at (small_after w.wiring h s) q) (takes_of q w.takes)
 
   -- no base is given, and the ring has its epoch and base
-  no-base : (q : ℕ) (r : Vring) → r.epoch ≡ (ring_at h q).epoch → r.base ≡ (ring_at h q).base → FromBases (bases q ++ []) r (takes_of q w.takes)
+  no-base : (q : ℕ) (r : Vring) → r.epoch ≡ (ring_at h q).epoch → r.base ≡ (ring_at h q).base → HasBases (bases q ++ []) r (takes_of q w.takes)
   no-base q r epoch base = rw (append-nil (bases q)) (stays-from (bases q) (ring_at h q) r (takes_of q w.takes) (takes_of q w.takes) (record { epoch = epoch; base = base; past = λ e low. refl }) (from q))
 
-  ring-kept : (q p : ℕ) (r : Vring) → (r.epoch ≡ (ring_at h p).epoch) × (r.base ≡ (ring_at h p).base) → FromBases (bases q ++ []) (ring_at (with_ring h p r) q) (takes_of q w.takes)
+  ring-kept : (q p : ℕ) (r : Vring) → (r.epoch ≡ (ring_at h p).epoch) × (r.base ≡ (ring_at h p).base) → HasBases (bases q ++ []) (ring_at (with_ring h p r) q) (takes_of q w.takes)
   ring-kept q p r same = no-base q (ring_at (with_ring h p r) q) (field-kept (λ (x : Vring). x.epoch) h p r same.0 q) (field-kept (λ (x : Vring). x.base) h p r same.1 q)
 
   base-from : (p n : ℕ) → p < length h.rings → waits (ring_at h p) (op.SetBase n) ≡ false → (said : DeviceSaid) (q : ℕ) → Now (Set p (op.SetBase n)) said q
   base-from p n within ready said q = elim (cases_eq q p) [
     | inl same ↦ (let P : ℕ → Type 0 = λ q. Now (Set p (op.SetBase n)) said q in subst P (sym same) here)
-    | inr other ↦ (let B : Bool → Type 0 = λ b. FromBases (bases q ++ cond (b && nat_lt (ring_at h p).epoch limit) (n ∷ []) []) (ring_at (with_ring h p (ring_after (ring_at h p) (op.SetBase n))) q) (takes_of q w.takes) in
-        subst B (sym (ne_eqb q p other)) (let R : Vring → Type 0 = λ r. FromBases (bases q ++ []) r (takes_of q w.takes) in subst R (sym (ring-other h p (ring_after (ring_at h p) (op.SetBase n)) q other)) (no-base q (ring_at h q) refl refl)))
+    | inr other ↦ (let B : Bool → Type 0 = λ b. HasBases (bases q ++ cond (b && nat_lt (ring_at h p).epoch limit) (n ∷ []) []) (ring_at (with_ring h p (ring_after (ring_at h p) (op.SetBase n))) q) (takes_of q w.takes) in
+        subst B (sym (ne_eqb q p other)) (let R : Vring → Type 0 = λ r. HasBases (bases q ++ []) r (takes_of q w.takes) in subst R (sym (ring-other h p (ring_after (ring_at h p) (op.SetBase n)) q other)) (no-base q (ring_at h q) refl refl)))
   ] where
     r : Vring
     r = ring_at h p
@@ -178,14 +184,14 @@ module _ {V : Type 0} (w : World V) (calm : ℕ → Bool) (i : Invariant w calm)
     ring-is : ring_at (with_ring h p (ring_after (ring_at h p) (op.SetBase n))) p ≡ based (ring_at h p) n
     ring-is = ring-own h p (ring_after (ring_at h p) (op.SetBase n)) within ∙ ap (λ b. cond {A = Vring} (not b && true) (based (ring_at h p) n) (ring_at h p)) ready
 
-    by : (b : Bool) → nat_lt (ring_at h p).epoch limit ≡ b → FromBases (bases p ++ cond (true && b) (n ∷ []) []) (cond {A = Vring} b (record (ring_at h p) { queue = record (ring_at h p).queue { next_avail = n }; epoch = (ring_at h p).epoch + 1; base = n; taken = 0 }) (ring_at h p)) (takes_of p w.takes)
+    by : (b : Bool) → nat_lt (ring_at h p).epoch limit ≡ b → HasBases (bases p ++ cond (true && b) (n ∷ []) []) (cond {A = Vring} b (record (ring_at h p) { queue = record (ring_at h p).queue { next_avail = n }; epoch = (ring_at h p).epoch + 1; base = n; taken = 0 }) (ring_at h p)) (takes_of p w.takes)
     by true few = stays-from (bases p ++ n ∷ []) (record (ring_at h p) { epoch = (ring_at h p).epoch + 1; base = n }) _ (takes_of p w.takes) (takes_of p w.takes) (record { epoch = refl; base = refl; past = λ e low. refl }) (new-epoch (bases p) (ring_at h p) (takes_of p w.takes) n (numbered p) (from p))
     by false few = no-base p (ring_at h p) refl refl
 
     here : Now (Set p (op.SetBase n)) said p
     here =
-        let B : Bool → Type 0 = λ b. FromBases (bases p ++ cond (b && nat_lt (ring_at h p).epoch limit) (n ∷ []) []) (ring_at (with_ring h p (ring_after (ring_at h p) (op.SetBase n))) p) (takes_of p w.takes) in
-        let R : Vring → Type 0 = λ r. FromBases (bases p ++ cond (true && nat_lt (ring_at h p).epoch limit) (n ∷ []) []) r (takes_of p w.takes) in
+        let B : Bool → Type 0 = λ b. HasBases (bases p ++ cond (b && nat_lt (ring_at h p).epoch limit) (n ∷ []) []) (ring_at (with_ring h p (ring_after (ring_at h p) (op.SetBase n))) p) (takes_of p w.takes) in
+        let R : Vring → Type 0 = λ r. HasBases (bases p ++ cond (true && nat_lt (ring_at h p).epoch limit) (n ∷ []) []) r (takes_of p w.takes) in
         subst B (sym (eq-eqb p p refl)) (subst R (sym ring-is) (by (nat_lt (ring_at h p).epoch limit) refl))
 
   small-from : (s : Small) (said : DeviceSaid) → Fits w.wiring (frame_of h) w.control.plan.reply s (tail_of w.control.plan.steps) → Rattle.vub_model.specs.Control.waits_now h s ≡ false → (q : ℕ) → Now s said q
@@ -238,7 +244,7 @@ none-given w party.Control q = refl
 none-given w (party.Worker k) q = refl
 
 pub epochs-from : {V : Type 0} (m : Meaning V) (turns : List ℕ) (labels : List Play) (w z : World V) (calm : ℕ → Bool) (bases : ℕ → List ℕ) → IsFew w (length turns) → Invariant w calm → Numbered w → AllFrom w bases → IsRun m turns labels w z → AllFrom z (λ q. bases q ++ bases_given m turns labels w q)
-epochs-from {V} m [] [] w z calm bases few i numbered from run q = rw (append-nil (bases q)) (subst (λ (x : World V). FromBases (bases q) (ring_at x.shared q) (takes_of q x.takes)) (sym run) (from q))
+epochs-from {V} m [] [] w z calm bases few i numbered from run q = rw (append-nil (bases q)) (subst (λ (x : World V). HasBases (bases q) (ring_at x.shared q) (takes_of q x.takes)) (sym run) (from q))
 epochs-from m [] (l ∷ labels) w z calm bases few i numbered from run q = absurd run
 epochs-from m (turn ∷ turns) [] w z calm bases few i numbered from run q = absurd run
 epochs-from {V} m (turn ∷ turns) (l ∷ labels) w z calm bases few i numbered from run q =
@@ -247,27 +253,19 @@ epochs-from {V} m (turn ∷ turns) (l ∷ labels) w z calm bases few i numbered 
     let still = few-turn m w p run.0 calm (length turns) (λ q. omega (arith, few q)) i l run.1 in
     let mid : AllFrom run.0 (λ q. bases q ++ given_by w p l q) =
     turn-cases m w p run.0 (λ l. AllFrom run.0 (λ q. bases q ++ given_by w p l q))
-    (λ same q. rw (none-given w p q, append-nil (bases q)) (subst (λ (x : World V). FromBases (bases q) (ring_at x.shared q) (takes_of q x.takes)) (sym same) (from q)))
+    (λ same q. rw (none-given w p q, append-nil (bases q)) (subst (λ (x : World V). HasBases (bases q) (ring_at x.shared q) (takes_of q x.takes)) (sym same) (from q)))
     (λ l may is. subst (λ (x : World V). AllFrom x (λ q. bases q ++ given_by w p l q)) (sym is) (step-from w calm i numbered bases from m p l may)) l run.1 in
     let count : Numbered run.0 =
     turn-cases m w p run.0 (λ l. Numbered run.0) (λ same. subst (λ (x : World V). Numbered x) (sym same) numbered)
     (λ l may is. subst (λ (x : World V). Numbered x) (sym is) (number-step m w numbered (λ s said ok. number-small w calm i numbered s said ok) p l may)) l run.1 in
     let rest = epochs-from m turns labels run.0 z (calm_after w p l run.0 calm) (λ q. bases q ++ given_by w p l q) still now count mid run.2 q in
     let same : (bases q ++ given_by w p l q) ++ bases_given m turns labels run.0 q ≡ bases q ++ (given_by w p l q ++ bases_given m turns labels (next m w p l) q) = append_assoc (bases q) (given_by w p l q) (bases_given m turns labels run.0 q) ∙ ap (λ x. bases q ++ (given_by w p l q ++ bases_given m turns labels x q)) (turn-next m w p l run.0 run.1) in
-    subst (λ b. FromBases b (ring_at z.shared q) (takes_of q z.takes)) same rest
+    subst (λ b. HasBases b (ring_at z.shared q) (takes_of q z.takes)) same rest
 
 -- at the opening each queue has its given base
-opening-from : {V : Type 0} (w : World V) → IsFresh w → AllFrom w (λ q. (ring_at w.shared q).base ∷ [])
+pub opening-from : {V : Type 0} (w : World V) → IsFresh w → AllFrom w (λ q. (ring_at w.shared q).base ∷ [])
 opening-from w fresh q = record {
   count = (let e = fresh.first_epoch q in omega (arith, e));
   last = ap (λ e. slice_index_or ((ring_at w.shared q).base ∷ []) e 0) (fresh.first_epoch q);
   each = λ e low. absurd (let f = fresh.first_epoch q in omega (arith, low, f));
 }
-
--- In every run of a valid set-up each epoch of a queue has its base: the given one, and then those of its accepted changes.
-pub epochs-of-setup : {V : Type 0} (m : Meaning V) (constants : Constants) (setup : Setup) (v : V) (turns : List ℕ) (labels : List Play) (z : World V) → length turns < limit → IsValid constants setup
-    → IsRun m turns labels (opening constants setup v) z → AllFrom z (λ q. (ring_at (opening constants setup v).shared q).base ∷ bases_given m turns labels (opening constants setup v) q)
-epochs-of-setup m constants setup v turns labels z short valid run =
-    let w = opening constants setup v in
-    let fresh = opening-is-fresh constants setup v in
-    epochs-from m turns labels w z (is_registered setup.rings) (λ q. (ring_at w.shared q).base ∷ []) (λ q. omega (arith, short, opening-untaken constants setup v valid q)) (opening-meets constants setup v valid) (fresh-numbered w fresh) (opening-from w fresh) run

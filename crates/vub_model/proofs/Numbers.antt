@@ -1,5 +1,5 @@
 -- The takes of one queue and one epoch are numbered base, base + 1 and so on.
-use Rattle.std.proofs.Common.{◌≡◌, ℕ, suc, ◌+◌, Bool, true, false, inl, inr, List, [], ◌∷◌, ◌++◌, map, filter, Option, Some, None, refl, sym, ap, ◌∙◌, subst, arith, eqb, slice_index_or, slice_set}
+use Rattle.std.proofs.Common.{◌≡◌, ℕ, suc, ◌+◌, ◌<◌, Bool, true, false, inl, inr, List, [], ◌∷◌, ◌++◌, map, filter, Option, Some, None, refl, sym, ap, ◌∙◌, subst, arith, eqb, slice_index_or, slice_set}
 use Rattle.std.proofs.lemmas.List.{append-nil, map-append, get_or-set_same, get_or-set_other}
 use Rattle.std.proofs.lemmas.Bool.{cases_eq}
 use Rattle.vub_queue.specs.declared.chain.Chain.{Chain}
@@ -21,7 +21,8 @@ use Rattle.vub_model.specs.Service.{Meaning}
 use Rattle.vub_model.specs.Wiring.{Wiring}
 use Rattle.vub_model.specs.Work.{Local, MayWork, after_work, after_take, after_took, after_put, after_said, called, used, entry_of, looked, put_said}
 use Rattle.vub_model.specs.World.{World, May, after, after_guest, phase_at, take_of, takes_by, after_control}
-use Rattle.vub_model.specs.Headline.{takes_of, numbers, count_up, NumberAt, RingNumbered, Numbered, IsFresh}
+use Rattle.vub_model.specs.Bases.{numbers, count_up}
+use Rattle.vub_model.specs.Headline.{takes_of, IsFresh}
 use Rattle.vub_model.proofs.Cases.{work-cases, event-shared, take-leaf, none-leaf, said-cases}
 use Rattle.vub_model.proofs.Live.{looked-live, live-parts, live-taken, serving-takes}
 use Rattle.vub_model.proofs.Flow.{field-kept}
@@ -29,6 +30,17 @@ use Rattle.vub_model.proofs.FlowSteps.{pushed, left_out, on-within}
 use Rattle.vub_model.specs.declared.small.Small.{Small}
 use Rattle.vub_proto.specs.declared.device_said.DeviceSaid.{DeviceSaid}
 use Rattle.vub_model.specs.Control.{MayControl}
+
+-- The takes of this epoch are numbered on from this base, and there is no later epoch.
+pub record NumberAt (epoch base taken : ℕ) (takes : List Take) : Type 0 where
+  pub now : numbers epoch takes ≡ count_up base taken
+  pub none_later : (e : ℕ) → epoch < e → numbers e takes ≡ []
+
+abbrev pub RingNumbered : Vring → List Take → Type 0
+RingNumbered r takes = NumberAt r.epoch r.base r.taken takes
+
+abbrev pub Numbered : {V : Type 0} → World V → Type 0
+Numbered w = (queue : ℕ) → RingNumbered (ring_at w.shared queue) (takes_of queue w.takes)
 
 -- One epoch
 
@@ -46,10 +58,6 @@ number-take epoch base taken takes t own number at =
     record {
       now = rw next more;
       none_later = λ e later. numbers-other e takes t (λ same. absurd (omega arith)) ∙ at.none_later e later;
-      each = λ e. elim (cases_eq epoch e) [
-        | inl same ↦ (base, suc taken, subst (λ e. numbers e (takes ++ t ∷ []) ≡ count_up base (suc taken)) same more)
-        | inr other ↦ (let old = at.each e in (old.0, old.1, numbers-other e takes t (λ same. other (sym own ∙ same)) ∙ old.2))
-      ];
     }
 
 -- writing a ring that keeps epoch, base and taken keeps them at every queue
@@ -131,4 +139,4 @@ module _ {V : Type 0} (m : Meaning V) (w : World V) (numbered : Numbered w) wher
     number-step p l may = absurd may
 
 pub fresh-numbered : {V : Type 0} (w : World V) → IsFresh w → Numbered w
-fresh-numbered w fresh q = rw (fresh.no_takes, fresh.untaken q) (record { now = refl; none_later = λ e later. refl; each = λ e. (0, 0, refl) })
+fresh-numbered w fresh q = rw (fresh.no_takes, fresh.untaken q) (record { now = refl; none_later = λ e later. refl })

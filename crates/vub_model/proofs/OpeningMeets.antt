@@ -1,9 +1,9 @@
 -- The opening of a valid set-up has the schedule invariant.
-use Rattle.std.proofs.Common.{◌≡◌, ℕ, zero, suc, ◌+◌, ◌<◌, Bool, true, false, cond, not, ◌&&◌, ◌⊎◌, inl, inr, List, [], ◌∷◌, ◌++◌, length, map, get_or, find, fold, Option, Some, None, is_some, refl, sym, ap, ◌∙◌, subst, arith, eqb, nat_lt, slice_index_or, append_assoc, append-nil}
+use Rattle.std.proofs.Common.{◌≡◌, ℕ, zero, suc, ◌+◌, ◌<◌, ◌≤◌, Bool, true, false, cond, not, ◌&&◌, ◌⊎◌, inl, inr, List, [], ◌∷◌, ◌++◌, length, map, get_or, find, fold, Option, Some, None, is_some, refl, sym, ap, ◌∙◌, subst, arith, eqb, nat_lt, slice_index_or, append_assoc, append-nil}
 use Rattle.std.specs.List.{AllByRecursion, list_all}
 use Rattle.std.proofs.lemmas.List.{get_or_past, length-append, length-map, get_or-map as mapped-at}
 use Rattle.std.proofs.lemmas.List.FromFn.{length-map-range_with_len, get_or-map-range_with_len}
-use Rattle.std.proofs.lemmas.Bool.{cases_lt, and_parts, eqb-true, eq-eqb, ne_eqb, ltb-true, not-true}
+use Rattle.std.proofs.lemmas.Bool.{cases_lt, and_parts, eqb-true, eq-eqb, ne_eqb, ltb-true, leb-true, not-true, not-false}
 use Rattle.vub_event.specs.declared.event.Event.{Event}
 use Rattle.vub_event.specs.declared.member.Member.{Member}
 use Rattle.vub_event.specs.HostTable.{event_at, members_at}
@@ -30,7 +30,7 @@ use Rattle.vub_model.specs.Shared.{Shared, ring_at, count_at, pending_at, has_nu
 use Rattle.vub_model.specs.Wiring.{Wiring, opened_at, no_worker, place_of, IsPlaced}
 use Rattle.vub_model.specs.World.{phase_at}
 use Rattle.vub_model.specs.Work.{is_object}
-use Rattle.vub_model.specs.ValidSetup.{or_else, is_event, is_event_or_none, is_free, is_free_or_none, is_first_of_queue, is_aligned, ring_is_sound, ring_fault, device_fault, region_fault, given_table_fault, guest_fault, fault_of, IsValid}
+use Rattle.vub_model.specs.ValidSetup.{or_else, is_event, is_event_or_none, is_free, is_free_or_none, is_first_of_queue, is_aligned, ring_is_sound, ring_fault, device_fault, exit_fault, is_greatest_size, region_fault, given_table_fault, guest_fault, fault_of, IsValid}
 use Rattle.vub_model.specs.Opening.{flags_of, opening_events, opened_worker, wiring_of, listed, exit_member, opening_members, given_vring, ring_from, opening_rings, claimed, joined, placed, registered_kick, registered, opening_table, before_rings, opening, is_registered, requests_of, new_control}
 use Rattle.vub_model.specs.Schedule.{IsKick, IsBellOrExit, IsOwn, known_at, claim_at, is_member, Linked, Settled, PhaseFits, HasInHand, ringing, waiting, Invariant, Wired, IsListener, RequestFits, NoBell}
 use Rattle.vub_model.proofs.Places.{place-is}
@@ -41,11 +41,32 @@ use Rattle.vub_model.proofs.Stepping.{begun-all}
 
 -- A set-up that fails no test
 
+unless-none : (b : Bool) (fault : SetupFault) (rest : Option SetupFault) → cond b (Some fault) rest ≡ None → (b ≡ false) × (rest ≡ None)
+unless-none true fault rest is = absurd cc
+unless-none false fault rest is = (refl, is)
+
 or-parts : (a b : Option SetupFault) → or_else a b ≡ None → (a ≡ None) × (b ≡ None)
 or-parts None b is = (refl, is)
 or-parts (Some x) b is = absurd cc
 
-rings-sound : (constants : Constants) (setup : Setup) → IsValid constants setup → ring_fault constants setup.objects [] setup.rings ≡ None
+-- the greatest size of a queue is a power of two, and no greater than 32768
+pub greatest-size : (constants : Constants) (setup : Setup) → IsValid constants setup → (is_power_of_two constants.max ≡ true) × (constants.max ≤ 32768)
+unfolding fault_of device_fault is_greatest_size
+greatest-size constants setup valid =
+    let rings = ring_fault constants setup.objects [] setup.rings in
+    let guest = guest_fault setup.objects setup.guest in
+    let table = given_table_fault setup.objects setup.regions in
+    let region = region_fault setup.objects setup.regions in
+    let device = device_fault constants setup.objects in
+    let first = or-parts device (or_else region (or_else table (or_else rings guest))) valid in
+    let exit = exit_fault constants setup.objects in
+    let queues = unless-none (nat_lt 64 constants.queues) setup_fault.Queues (cond (nat_lt 64 (length constants.masks)) (Some setup_fault.Workers) (cond (not (is_greatest_size constants.max)) (Some setup_fault.QueueSize) exit)) first.0 in
+    let workers = unless-none (nat_lt 64 (length constants.masks)) setup_fault.Workers (cond (not (is_greatest_size constants.max)) (Some setup_fault.QueueSize) exit) queues.1 in
+    let size = unless-none (not (is_greatest_size constants.max)) setup_fault.QueueSize exit workers.1 in
+    let both = and_parts (is_power_of_two constants.max) (nat_le constants.max 32768) (not-false (is_greatest_size constants.max) size.0) in
+    (both.0, leb-true constants.max 32768 both.1)
+
+pub rings-sound : (constants : Constants) (setup : Setup) → IsValid constants setup → ring_fault constants setup.objects [] setup.rings ≡ None
 unfolding fault_of
 rings-sound constants setup valid =
     let rings = ring_fault constants setup.objects [] setup.rings in
@@ -62,8 +83,16 @@ rings-sound constants setup valid =
 pub record IsSound (constants : Constants) (objects : List Object) (earlier : List GivenRing) (r : GivenRing) : Type 0 where
   pub there : r.queue < constants.queues
   pub first : is_first_of_queue earlier r.queue ≡ true
+  pub power : is_power_of_two r.size ≡ true
+  pub size : r.size ≤ constants.max
   pub event : is_event_or_none objects r.kick ≡ true
   pub free : is_free_or_none constants earlier r.kick ≡ true
+
+-- and whatever ring comes before it
+pub record IsSoundSize (constants : Constants) (r : GivenRing) : Type 0 where
+  pub there : r.queue < constants.queues
+  pub power : is_power_of_two r.size ≡ true
+  pub size : r.size ≤ constants.max
 
 sound-parts : (constants : Constants) (objects : List Object) (earlier : List GivenRing) (r : GivenRing) → ring_is_sound constants objects earlier r ≡ true → IsSound constants objects earlier r
 unfolding ring_is_sound
@@ -82,7 +111,7 @@ sound-parts constants objects earlier r is =
     let fits = and_parts (a && b && c) d aligned.0 in
     let power = and_parts (a && b) c fits.0 in
     let first = and_parts a b power.0 in
-    record { there = ltb-true r.queue constants.queues first.0; first = first.1; event = kick.1; free = free.1 }
+    record { there = ltb-true r.queue constants.queues first.0; first = first.1; power = power.1; size = leb-true r.size constants.max fits.1; event = kick.1; free = free.1 }
 
 cond-none : (b : Bool) (rest : Option SetupFault) (fault : SetupFault) → cond b rest (Some fault) ≡ None → (b ≡ true) × (rest ≡ None)
 cond-none true rest fault is = (refl, is)
@@ -142,6 +171,14 @@ object-below [] o is = absurd cc
 object-below (x ∷ objects) zero is = omega arith
 object-below (x ∷ objects) (suc o) is = omega (arith, object-below objects o is)
 
+-- each given ring is sound
+pub given-sound : (constants : Constants) (objects : List Object) (earlier rest : List GivenRing) (r : GivenRing) → ring_fault constants objects earlier rest ≡ None → Among rest r → IsSoundSize constants r
+given-sound constants objects earlier [] r sound among = absurd among
+given-sound constants objects earlier (x ∷ rest) r sound (inl same) =
+    let its = (fault-parts constants objects earlier x rest sound).0 in
+    subst (IsSoundSize constants) same (record { there = its.there; power = its.power; size = its.size })
+given-sound constants objects earlier (x ∷ rest) r sound (inr more) = given-sound constants objects (earlier ++ x ∷ []) rest r (fault-parts constants objects earlier x rest sound).1 more
+
 -- Given rings are found by their queues
 
 queue-apart : (constants : Constants) (objects : List Object) (earlier rest : List GivenRing) (r y : GivenRing) → ring_fault constants objects earlier rest ≡ None → Among rest r → Among earlier y → y.queue ≡ r.queue → ⊥
@@ -169,7 +206,7 @@ find-own constants objects earlier (x ∷ rest) r sound (inr more) =
       apart-false : (x.queue ≡ r.queue → ⊥) → eqb x.queue r.queue ≡ false
       apart-false other = ne_eqb x.queue r.queue other
 
-found-in : (q : ℕ) (rings : List GivenRing) (r : GivenRing) → find (λ (x : GivenRing). eqb x.queue q) rings ≡ Some r → Among rings r × (r.queue ≡ q)
+pub found-in : (q : ℕ) (rings : List GivenRing) (r : GivenRing) → find (λ (x : GivenRing). eqb x.queue q) rings ≡ Some r → Among rings r × (r.queue ≡ q)
 found-in q [] r is = absurd cc
 found-in q (x ∷ rings) r is = by (eqb x.queue q) refl (found-in q rings r) is where
   by : (b : Bool) → eqb x.queue q ≡ b → (find (λ (x : GivenRing). eqb x.queue q) rings ≡ Some r → Among rings r × (r.queue ≡ q)) → cond {A = Option GivenRing} b (Some x) (find (λ (x : GivenRing). eqb x.queue q) rings) ≡ Some r → Among (x ∷ rings) r × (r.queue ≡ q)
@@ -472,12 +509,30 @@ registered-all constants setup v is_valid =
     let valid = rings-sound constants setup is_valid in
     register-all constants setup.objects setup.rings valid [] setup.rings (before_rings constants setup v) valid (λ r among. among) (first-stage constants setup.objects setup.rings valid setup.regions setup.guest v)
 
+-- the ring of a queue is the given one or a new one, and a queue that is not there has none given
+pub opening-ring : {V : Type 0} (constants : Constants) (setup : Setup) (v : V) → IsValid constants setup → (q : ℕ)
+    → (ring_at (opening constants setup v).shared q ≡ ring_from constants.max (find (λ (r : GivenRing). eqb r.queue q) setup.rings)) ⊎ ((ring_at (opening constants setup v).shared q ≡ closed_ring) × (find (λ (r : GivenRing). eqb r.queue q) setup.rings ≡ None))
+opening-ring constants setup v is_valid q =
+    let valid = rings-sound constants setup is_valid in
+    let here = ring-here constants setup.objects setup.rings valid (opening constants setup v).shared (registered-all constants setup v is_valid) q in
+    let size = rings-size constants setup.objects setup.rings valid in
+    elim (cases_lt q constants.queues) [
+      | inl low ↦ inl (here ∙ ring-is constants setup.objects setup.rings valid q low)
+      | inr high ↦ inr (here ∙ get_or_past (opening_rings constants setup.rings) q closed_ring (omega (arith, high, size)), none-found (find (λ (r : GivenRing). eqb r.queue q) setup.rings) refl valid high)
+    ] where
+      none-found : (found : Option GivenRing) → find (λ (r : GivenRing). eqb r.queue q) setup.rings ≡ found → ring_fault constants setup.objects [] setup.rings ≡ None → constants.queues ≤ q → found ≡ None
+      none-found None is valid high = refl
+      none-found (Some r) is valid high =
+          let its = found-in q setup.rings r is in
+          let low = (given-sound constants setup.objects [] setup.rings r valid its.0).there in
+          absurd (let same = its.1 in omega (arith, low, high, same))
+
 pub opening-untaken : {V : Type 0} (constants : Constants) (setup : Setup) (v : V) → IsValid constants setup → (q : ℕ) → (ring_at (opening constants setup v).shared q).taken ≡ 0
 opening-untaken constants setup v is_valid q =
     let valid = rings-sound constants setup is_valid in
     ap (λ (x : Vring). x.taken) (ring-here constants setup.objects setup.rings valid (opening constants setup v).shared (registered-all constants setup v is_valid) q) ∙ (none-taken constants setup.objects setup.rings valid q).1
 
-pub opening-meets : {V : Type 0} (constants : Constants) (setup : Setup) (v : V) → IsValid constants setup → Invariant (opening constants setup v) (is_registered setup.rings)
+pub opening-meets : {V : Type 0} (constants : Constants) (setup : Setup) (v : V) → IsValid constants setup → Invariant (opening constants setup v) (is_registered constants setup)
 unfolding opening
 opening-meets {V} constants setup v is_valid =
     let fit : AllByRecursion (RequestFits (wiring_of constants (length setup.objects)) (frame_of (opening constants setup v).shared).events) (requests_of setup) = tt in
@@ -500,7 +555,7 @@ opening-meets {V} constants setup v is_valid =
       phases = λ k. idle-fits g k constants.masks k;
       flies = λ q is. absurd (let none = ap (λ (x : Vring). x.flight) (ring-here constants objects given valid h s q) ∙ (none-taken constants objects given valid q).0 in cc);
       hands = λ k q hand. absurd (idle-hand constants.masks k q hand);
-      rung = λ k below goes some. inl (ringing (opened constants objects given valid h s (λ w. 0 < count_at h.table w.bell) k (low-of constants objects given valid h s k below) (s.rung k (low-of constants objects given valid h s k below) some)));
+      rung = λ k below some. inl (ringing (opened constants objects given valid h s (λ w. 0 < count_at h.table w.bell) k (low-of constants objects given valid h s k below) (s.rung k (low-of constants objects given valid h s k below) some)));
       awake = λ q k n o at goes kick member on addresses calms left.
           inl (waiting (joined-here constants objects given valid h s q k n o (place-is g q k n at).below at (ap (λ (x : Vring). x.kick) (sym (ring-here constants objects given valid h s q)) ∙ kick) (ap is_on (sym (ring-here constants objects given valid h s q)) ∙ on)).1);
     }

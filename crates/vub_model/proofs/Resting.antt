@@ -178,7 +178,7 @@ module _ {V : Type 0} (w : World V) (calm : ℕ → Bool) (i : Invariant w calm)
 
   no-woken : (q k n o : ℕ) → k < length w.wiring.opened → (HasStopped (phase_at w.phases k) → ⊥) → is_member (list_at w.wiring (frame_of w.shared) k) o ≡ true → Woken (count_at w.shared.table o) (pending_at w.shared k) (phase_at w.phases k) q n → ⊥
   no-woken q k n o below goes member (signalled above) = no-event k o below goes member above
-  no-woken q k n o below goes member (waiting has) = no-ring k below goes (i.rung k below goes (λ none. let e = ap (has_number n) none in absurd cc))
+  no-woken q k n o below goes member (waiting has) = no-ring k below goes (i.rung k below (λ none. let e = ap (has_number n) none in absurd cc))
   no-woken q k n o below goes member (listed has) = let e = ap (λ p. has_number q (list_of p)) (is-idle k goes) in absurd cc
 
   no-waking : (q k n o : ℕ) → k < length w.wiring.opened → (HasStopped (phase_at w.phases k) → ⊥) → is_member (list_at w.wiring (frame_of w.shared) k) o ≡ true → Woken (count_at w.shared.table o) (pending_at w.shared k) (phase_at w.phases k) q n ⊎ IsHandled w.control.plan.steps k n o → ⊥

@@ -285,7 +285,7 @@ module _ {V : Type 0} (w : World V) (calm : ℕ → Bool) (i : Invariant w calm)
         phases = i.phases;
         flies = λ q flies. i.flies q (sym (flights q) ∙ flies);
         hands = λ k q hand. let old = i.hands k q hand in (old.0, record { flight = flights q ∙ old.1.flight; addresses = addressed q old.1.addresses; ready = readies q old.1.flight old.1.ready });
-        rung = λ k below goes some. rung k below some (λ was. let P : List Small → Type 0 = λ l. Rung (count_at h.table (opened_at g k).bell) (phase_at w.phases k) ⊎ First l (Bell (opened_at g k).bell) in subst P is (i.rung k below goes was));
+        rung = λ k below some. rung k below some (λ was. let P : List Small → Type 0 = λ l. Rung (count_at h.table (opened_at g k).bell) (phase_at w.phases k) ⊎ First l (Bell (opened_at g k).bell) in subst P is (i.rung k below was));
         awake = awake;
       }
 

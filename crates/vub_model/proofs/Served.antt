@@ -28,16 +28,17 @@ use Rattle.vub_model.specs.Opening.{opening, is_registered}
 use Rattle.vub_model.specs.World.{World, phase_at, after_control}
 use Rattle.vub_model.specs.RunOf.{party_of, next, Turn, IsRun}
 use Rattle.vub_model.specs.Running.{calm_after}
-use Rattle.vub_model.specs.Headline.{Asked, asked, asked_at, takes_of, uses_of, asked_of, NumberAt, RingNumbered, Numbered, IsServed, IsOwnNumber}
+use Rattle.vub_model.specs.Headline.{Asked, asked, asked_at, takes_of, uses_of, asked_of, IsServed, IsOwnNumber}
 use Rattle.vub_model.specs.Schedule.{IsNumber, IsOwn, IsKick, IsBellOrExit, IsListener, PhaseFits, Fits, SetFits, RequestFits, Invariant}
 use Rattle.vub_model.proofs.Places.{slot, few-queues}
-use Rattle.vub_model.proofs.Counting.{field-kept, ring-own, ring-other, ring-past}
+use Rattle.vub_model.proofs.Counting.{field-kept}
+use Rattle.vub_model.proofs.EachRing.{ring-all}
 use Rattle.vub_model.proofs.Waking.{has-first, has-more}
 use Rattle.vub_model.proofs.Turns.{turn-cases, turn-next}
 use Rattle.vub_model.proofs.Owners.{Owned, OwnPhase, OwnMembers, OwnNumbers}
 use Rattle.vub_model.proofs.Flow.{Flow}
 use Rattle.vub_model.proofs.FlowRuns.{asked-pass, flow-step, replay-run, Goes, flow-goes, fresh-flow}
-use Rattle.vub_model.proofs.Numbers.{number-step, fresh-numbered}
+use Rattle.vub_model.proofs.Numbers.{NumberAt, RingNumbered, Numbered, number-step, fresh-numbered}
 use Rattle.vub_model.proofs.Openings.{opening-is-fresh}
 use Rattle.vub_model.proofs.OpeningMeets.{opening-meets, opening-untaken}
 use Rattle.vub_model.proofs.SchedControl.{first-fits, flight-kept, info-flight}
@@ -111,7 +112,7 @@ flight-small w calm i s said may q = by s (first-fits w calm i s said may) where
 -- a change of a ring keeps its numbers, and a new base begins a new epoch
 module _ (g : Wiring) (f : Frame) (q : ℕ) (r : Vring) (takes : List Take) (at : RingNumbered r takes) where
   next-epoch : (n : ℕ) → NumberAt (r.epoch + 1) n 0 takes
-  next-epoch n = record { now = at.none_later (r.epoch + 1) (omega arith); none_later = λ e later. at.none_later e (omega (arith, later)); each = at.each }
+  next-epoch n = record { now = at.none_later (r.epoch + 1) (omega arith); none_later = λ e later. at.none_later e (omega (arith, later)) }
 
   abbrev Kept : RingOp → Type 0
   Kept o = RingNumbered (ring_after r o) takes
@@ -137,19 +138,6 @@ module _ (g : Wiring) (f : Frame) (q : ℕ) (r : Vring) (takes : List Take) (at 
   number-info : (desc avail used : ℕ) (more : Option ℕ) → Kept (op.SetInfo desc avail used more)
   number-info desc avail used None = kept-if (op.SetInfo desc avail used None) at
   number-info desc avail used (Some n) = kept-if (op.SetInfo desc avail used (Some n)) at
-
--- a write of one ring
-pub ring-all : {V : Type 0} (h : Shared V) (p : ℕ) (r : Vring) (P : ℕ → Vring → Type 0) → (P p (ring_at h p) → P p r) → (q : ℕ) → P q (ring_at h q) → P q (ring_at (with_ring h p r) q)
-ring-all h p r P new q was =
-    elim (cases_eq q p) [
-      | inl same ↦ (let F : ℕ → Type 0 = λ q. P q (ring_at h q) → P q (ring_at (with_ring h p r) q) in (subst F (sym same) here) was)
-      | inr other ↦ (let F : Vring → Type 0 = λ x. P q x in subst F (sym (ring-other h p r q other)) was)
-    ] where
-      here : P p (ring_at h p) → P p (ring_at (with_ring h p r) p)
-      here was = elim (cases_lt p (length h.rings)) [
-        | inl within ↦ (let F : Vring → Type 0 = λ x. P p x in subst F (sym (ring-own h p r within)) (new was))
-        | inr past ↦ (let F : List Vring → Type 0 = λ l. P p (slice_index_or l p closed_ring) in subst F (sym (ring-past h p r past)) was)
-      ]
 
 pub number-small : {V : Type 0} (w : World V) (calm : ℕ → Bool) → Invariant w calm → Numbered w → (s : Small) (said : DeviceSaid) → MayControl w.shared w.control.plan.steps s said → Numbered (after_control w s said)
 number-small w calm i numbered s said may q = by s (first-fits w calm i s said may) where
@@ -181,7 +169,7 @@ served-turn {V} m w calm p z calls i flow numbered =
       subst (λ (x : World V). Numbered x) (sym is) (number-step m w numbered (λ s said ok. number-small w calm i numbered s said ok) p l may),
     ))
 
-served-run : {V : Type 0} (m : Meaning V) (turns : List ℕ) (labels : List Play) (w z : World V) (calm : ℕ → Bool) (calls : List Asked) → IsFew w (length turns) → Invariant w calm → Flow w calls → Numbered w → IsRun m turns labels w z
+pub served-run : {V : Type 0} (m : Meaning V) (turns : List ℕ) (labels : List Play) (w z : World V) (calm : ℕ → Bool) (calls : List Asked) → IsFew w (length turns) → Invariant w calm → Flow w calls → Numbered w → IsRun m turns labels w z
     → Flow z (calls ++ asked m turns labels w) × Numbered z × Owned z
 served-run {V} m [] [] w z calm calls few i flow numbered run =
     (subst (λ c. Flow z c) (sym (append-nil calls)) (subst (λ (x : World V). Flow x calls) (sym run) flow), subst (λ (x : World V). Numbered x) (sym run) numbered, subst (λ (x : World V). Owned x) (sym run) (invariant-owned w calm i))
@@ -195,19 +183,3 @@ served-run {V} m (turn ∷ turns) (l ∷ labels) w z calm calls few i flow numbe
     let rest = served-run m turns labels run.0 z (calm_after w p l run.0 calm) (calls ++ asked_at m w p l) still now mid.0 mid.1 run.2 in
     let same : (calls ++ asked_at m w p l) ++ asked m turns labels run.0 ≡ calls ++ (asked_at m w p l ++ asked m turns labels (next m w p l)) = append_assoc calls (asked_at m w p l) (asked m turns labels run.0) ∙ ap (λ x. calls ++ (asked_at m w p l ++ asked m turns labels x)) (turn-next m w p l run.0 run.1) in
     (subst (λ c. Flow z c) same rest.0, rest.1, rest.2)
-
--- The headline, with control requests: for every valid set-up whose requests fit, and every schedule below the limit.
-pub headline : {V : Type 0} (m : Meaning V) (constants : Constants) (setup : Setup) (v : V) (turns : List ℕ) (labels : List Play) (z : World V) → length turns < limit → IsValid constants setup
-    → IsRun m turns labels (opening constants setup v) z → IsServed m turns labels (opening constants setup v) z
-headline m constants setup v turns labels z short valid run =
-    let w = opening constants setup v in
-    let fresh = opening-is-fresh constants setup v in
-    let calls = asked m turns labels w in
-    let all = served-run m turns labels w z (is_registered setup.rings) [] (λ q. omega (arith, short, opening-untaken constants setup v valid q)) (opening-meets constants setup v valid) (fresh-flow w fresh) (fresh-numbered w fresh) run in
-    let goes : (q : ℕ) → Goes z q (takes_of q z.takes) (asked_of q calls) (uses_of q z.uses) = λ q. flow-goes z all.2 q (takes_of q z.takes) (asked_of q calls) (uses_of q z.uses) (ring_at z.shared q).flight refl (all.0 q) in
-    record {
-      replies = replay-run m turns labels w z run;
-      in_order = λ q. (goes q).0;
-      out = λ q. (goes q).1;
-      numbered = all.1;
-    }

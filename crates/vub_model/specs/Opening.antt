@@ -1,7 +1,7 @@
 -- The state in which a run of a set-up begins. A given ring that is ready and enabled, with a kick and a worker, is
 -- registered: its kick is claimed and joins its worker's interest list, the queue is pending, and the bell is rung. The
 -- kick of any other given ring is claimed alone.
-use Rattle.std.specs.Prelude.{ℕ, ◌+◌, Bool, false, ◌&&◌, ◌==◌, if◌then◌else◌, List, [], ◌∷◌, ◌++◌, length, map, replicate, slice_index_or, Option, Some, None, find, fold}
+use Rattle.std.specs.Prelude.{ℕ, ◌+◌, ◌%◌, ◌^◌, Bool, false, ◌&&◌, ◌==◌, if◌then◌else◌, List, [], ◌∷◌, ◌++◌, length, map, replicate, slice_index_or, Option, Some, None, is_some, find, fold}
 use Rattle.std.specs.List.{range_with_len}
 use Rattle.vub_queue.specs.Ring.{Ring}
 use Rattle.vub_queue.specs.declared.addresses.Addresses.{Addresses}
@@ -70,7 +70,7 @@ addresses_of None = None
 addresses_of (Some info) = Some (record { desc = info.desc; avail = info.avail; used = info.used })
 
 abbrev pub given_queue : ℕ → GivenRing → Ring
-given_queue max r = record { max = max; size = r.size; ready = r.ready; event_idx = false; addresses = addresses_of r.info; next_avail = r.base; next_used = r.next_used; told = r.next_used }
+given_queue max r = record { max = max; size = r.size; ready = r.ready; event_idx = false; addresses = addresses_of r.info; next_avail = r.base % 2 ^ 16; next_used = r.next_used; told = r.next_used }
 
 abbrev pub given_vring : ℕ → GivenRing → Vring
 given_vring max r = record { queue = given_queue max r; kick = r.kick; call = r.call; err = None; enabled = r.enabled; flight = flight.None; epoch = 0; base = r.base; taken = 0 }
@@ -157,7 +157,12 @@ unfoldable pub opening : {V : Type 0} → Constants → Setup → V → World V
 opening constants setup service =
     record { shared = opening_held constants setup service; wiring = wiring_of constants (length setup.objects); phases = map (λ mask. Idle) constants.masks; guest = setup.guest; control = opening_control constants setup service; takes = []; uses = []; written = map unwritten setup.objects }
 
+-- the ring is registered where it is ready and enabled, and has a kick and a worker
+abbrev pub is_registered_ring : Wiring → Option GivenRing → Bool
+is_registered_ring g None = false
+is_registered_ring g (Some r) = r.ready && r.enabled && is_some r.kick && is_some (place_of g r.queue)
+
 -- the opening counts as the registration of the rings that it registers
-abbrev pub is_registered : List GivenRing → ℕ → Bool
-is_registered [] queue = false
-is_registered (r ∷ rings) queue = if r.queue == queue then r.ready && r.enabled else is_registered rings queue
+abbrev pub is_registered : Constants → Setup → ℕ → Bool
+is_registered constants setup queue =
+    is_registered_ring (wiring_of constants (length setup.objects)) (find (λ r. r.queue == queue) setup.rings)

@@ -184,11 +184,12 @@ pub data Rung (bell_count : ℕ) (phase : Phase) : Type 0 where
   ringing : 0 < bell_count → Rung bell_count phase
   sweeping : phase ≡ Sweep → Rung bell_count phase
 
--- a worker that has not stopped, with something pending, hears of it, or control is about to ring its bell
+-- a worker with something pending hears of it, or control is about to ring its bell
 abbrev pub AllRung : {V : Type 0} → World V → Type 0
 AllRung w =
-    (worker : ℕ) → worker < length w.wiring.opened → (HasStopped (phase_at w.phases worker) → ⊥) → pending_at w.shared worker ≢ [] →
-    Rung (count_at w.shared.table (opened_at w.wiring worker).bell) (phase_at w.phases worker) ⊎ First w.control.plan.steps (Bell (opened_at w.wiring worker).bell)
+    (worker : ℕ) → worker < length w.wiring.opened → pending_at w.shared worker ≢ [] →
+    Rung (count_at w.shared.table (opened_at w.wiring worker).bell) (phase_at w.phases worker)
+    ⊎ First w.control.plan.steps (Bell (opened_at w.wiring worker).bell)
 
 -- Kicks
 
