@@ -1,3 +1,4 @@
+pub mod DeviceRun
 pub mod Flags
 pub mod ForWiring
 pub mod Machine
@@ -8,4 +9,5 @@ pub mod Played
 pub mod Recorded
 pub mod Rest
 pub mod Spans
+pub mod Stepped
 pub mod Workers

@@ -1,12 +1,12 @@
 //! The machine that a valid set-up opens.
-ghost use Rattle.std.specs.Prelude.{◌≡◌, ◌+◌, ◌<◌, ◌^◌, [], None, length, map, IfOk, IfErr, OnOk};
+ghost use Rattle.std.specs.Prelude.{◌≡◌, ◌+◌, ◌<◌, ◌^◌, None, length, map, IfOk, IfErr, OnOk};
 ghost use Rattle.std.specs.List.{range_with_len};
 ghost use Rattle.vub_model.specs.declared.phase.Phase.TheVariants.{Idle};
 ghost use Rattle.vub_model.specs.Opening.{opening, opened_worker, wiring_of};
 ghost use Rattle.vub_model.specs.ValidSetup.{fault_of, contents_from, given_region};
 ghost use Rattle.vub_loop.specs.Handler.{phase_of, new_handler};
-ghost use Rattle.vub_core.specs.Machine.{world_of};
-ghost use Rattle.vub_open.specs.Opened.{unserved};
+ghost use Rattle.vub_core.specs.Machine.{opened_world};
+ghost use Rattle.vub_open.specs.Hosts.{NeverFails};
 ghost use Rattle.vub_open.specs.Refused.{IsRefusal};
 ghost use Rattle.vub_core.specs.Workers.{AreHandlers};
 
@@ -52,9 +52,9 @@ fn open_machine(
     requires numbers { length setup.now.objects + length constants.now.masks < 2 ^ 32 }
     requires valid { fault_of constants.now setup.now ≡ None }
     requires guest { memory.guest ≡ record { regions = map given_region setup.now.regions; contents = contents_from 0 setup.now.objects } }
-    ensures world { IfOk result (λ m. world_of (wiring_of constants.now (length setup.now.objects)) setup.now.guest m (tt {0}) ≡ opening constants.now setup.now (tt {0})) }
+    ensures world { IfOk result (λ m. opened_world constants.now setup.now m ≡ opening constants.now setup.now (tt {0})) }
     ensures workers { IfOk result (λ m. AreHandlers (wiring_of constants.now (length setup.now.objects)) 0 m.workers.items) }
-    ensures sound { IfOk result (λ m. m.store.host.plan.calls.items ≡ []) }
+    ensures sound { IfOk result (λ m. NeverFails m.store.host) }
 {
     let store = open_store(alloc, setup, constants, memory)?;
     let workers = open_handlers(alloc, constants, setup.objects.len() as u32)?;
@@ -78,9 +78,9 @@ pub(crate) fn open(
 ) -> Result<Machine, DriveFault>
     ensures refused { IfErr result (λ f. IsRefusal (fault_of constants.now setup.now) f) }
     ensures valid { OnOk result (fault_of constants.now setup.now ≡ None) }
-    ensures world { IfOk result (λ m. world_of (wiring_of constants.now (length setup.now.objects)) setup.now.guest m (tt {0}) ≡ opening constants.now setup.now (tt {0})) }
+    ensures world { IfOk result (λ m. opened_world constants.now setup.now m ≡ opening constants.now setup.now (tt {0})) }
     ensures workers { IfOk result (λ m. AreHandlers (wiring_of constants.now (length setup.now.objects)) 0 m.workers.items) }
-    ensures sound { IfOk result (λ m. m.store.host.plan.calls.items ≡ []) }
+    ensures sound { IfOk result (λ m. NeverFails m.store.host) }
     ensures numbers { OnOk result (length setup.now.objects + length constants.now.masks < 2 ^ 32) }
 {
     let memory = validate(alloc, setup, constants)?;

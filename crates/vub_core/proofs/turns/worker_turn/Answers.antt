@@ -1,5 +1,5 @@
 use Rattle.std.proofs.Common.{rules, ◌≡◌, ◌∙◌, ◌++◌, ◌<◌, ◌⊎◌, List, length, IsSome, Option, ap, subst, refl}
-use Rattle.vub_model.specs.declared.label.Label.TheVariants as label
+use Rattle.vub_model.specs.declared.play.Play.TheVariants as play
 use Rattle.vub_model.specs.declared.phase.Phase.{Phase}
 use Rattle.vub_model.specs.Service.{meaning}
 use Rattle.vub_model.specs.RingRecord.{Vring}
@@ -28,7 +28,7 @@ returns-in_err-record-clause-err g c w are =
     let own = handler-here w c.args.machine.now.workers.items c.args.worker c.index_mut-handler.result.now are within c.index_mut-handler.ensures.value in
     let row = c.in_ok-label.ensures.row w c.args.worker own in
     let done : c.take_finished-finished.result ≡ finished_by c.in_ok-label.label (phase_of c.index_mut-handler.result.now) (phase_of c.play_worker.new.worker) = c.take_finished-finished.ensures.was ∙ c.in_ok-label.ensures.finished in
-    let C : Option Finished → Type 0 = λ x. (c.in_ok-label.label ≡ label.Take) ⊎ IsSome x in
+    let C : Option Finished → Type 0 = λ x. (c.in_ok-label.label ≡ play.Take) ⊎ IsSome x in
     on-err c.from_residual-in_err-record.result (turn-keeps (meaning g.V.Service.reply_of g.V.Service.after) w c.args.worker _ _ _ _ c.in_ok-label.label row (subst C done c.in_err-record.ensures.err))
 
 pub returns-clause-turn : goal.returns-clause-turn
