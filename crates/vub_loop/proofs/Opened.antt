@@ -3,7 +3,7 @@ use Rattle.std.proofs.Common.{◌≡◌, ℕ, refl, sym, ◌∙◌, ap}
 use Rattle.vub_model.specs.declared.constants.Constants.{Constants}
 use Rattle.vub_model.specs.declared.wiring.Opened.{Opened}
 use Rattle.vub_model.specs.Wiring.{Wiring, opened_at, queues_of}
-use Rattle.vub_loop.specs.declared.handler.VringEpollHandler.{VringEpollHandler}
+use Rattle.vub_loop.specs.Worker.{Worker}
 use Rattle.vub_loop.specs.Handler.{IsHandler, SameWorker, new_handler}
 
 -- a worker that was opened as the wiring has it, before its first step
@@ -17,7 +17,7 @@ new-handler g constants opened queues masks is = record {
 }
 
 -- a worker after a step
-pub same-handler : (g : Wiring) (worker : ℕ) (old new : VringEpollHandler) → IsHandler g worker old → SameWorker old new → IsHandler g worker new
+pub same-handler : (g : Wiring) (worker : ℕ) (old new : Worker) → IsHandler g worker old → SameWorker old new → IsHandler g worker new
 same-handler g worker old new is same = record {
   number = ap (λ (o : Opened). o.worker) same.opened ∙ is.number;
   opened = same.opened ∙ is.opened;

@@ -1,8 +1,11 @@
 pub mod Faults
 pub mod Finished
 pub mod Handler
+pub mod Hearing
+pub mod Phases
 pub mod Plays
 pub mod Polling
 pub mod Said
 pub mod Sound
 pub mod Stepping
+pub mod Worker

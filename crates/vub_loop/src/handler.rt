@@ -1,27 +1,33 @@
-ghost use Rattle.std.specs.Prelude.{◌≡◌, ℕ, IfOk, IsOk};
+ghost use Rattle.std.specs.Prelude.{◌≡◌, ℕ, IfOk};
 ghost use Rattle.std.specs.Option.{ForSome};
 ghost use Rattle.vub_model.specs.Service.{meaning};
 ghost use Rattle.vub_model.specs.Wiring.{Wiring};
 ghost use Rattle.vub_model.specs.Work.{after_event};
-ghost use Rattle.vub_vring.specs.PartsState.{HasFailed, IsUntouched};
-ghost use Rattle.vub_loop.specs.Faults.{IsHostStop, read_error};
-ghost use Rattle.vub_loop.specs.Finished.{finished_by};
-ghost use Rattle.vub_loop.specs.Handler.{phase_of, IsHandler, new_handler};
-ghost use Rattle.vub_loop.specs.Polling.{polling_label};
+ghost use Rattle.vub_vring.specs.Calls.{telling};
+ghost use Rattle.vub_vring.specs.PartsState.{IsUntouched};
+ghost use Rattle.vub_loop.specs.Faults.{read_error};
+ghost use Rattle.vub_loop.specs.Finished.{finished_by, finished_in};
+ghost use Rattle.vub_loop.specs.Handler.{phase_of, IsHandler, IsNew, new_handler};
+ghost use Rattle.vub_loop.specs.Hearing.{HandledBy, HearsDevice, TurnsDevice};
+ghost use Rattle.vub_loop.specs.Phases.{is_polled, is_rung, is_heard, is_serving, is_taken, is_served, MadeIn, PolledIn, TurnedIn};
+ghost use Rattle.vub_loop.specs.Polling.{PollingIn};
 ghost use Rattle.vub_loop.specs.Sound.{IsSound};
-ghost use Rattle.vub_loop.specs.Stepping.{StepsBy, PollsBy, PollingBy, TurnsBy, PollsLeastBy, ReadsBy, StopsBy, StepFrame, ReadFrame};
+ghost use Rattle.vub_loop.specs.Stepping.{OnPhases, StepsBy, PollsBy, PollingBy, HearsBy, HearingBy, TurnsBy, PollsLeastBy, PollingLeastBy, TurnsLeastBy, ReadsBy, UsesNone, StepFrame, SureFrame, HearFrame, TurnFrame, ReadFrame};
 
 use crate::finished::Finished;
 use crate::mask::queues_of_mask;
-use crate::phases::{queues_at, refusal, serving_of, serving_rest, stopped_by};
+use crate::phases::{handled, queues_at, refusal, serving_of, serving_rest, stopped_by};
 use crate::polling::Polling;
 use crate::reading::{heard, kicked, rung};
 use crate::said::member_of;
 use crate::standing::Standing;
+use crate::turned::Turned;
 use std::alloc::Global;
+use std::marker::Model;
 use std::mem;
 use vub_base::{Listed, OutOfMemory};
-use vub_model::{Constants, Entry, Label, Opened, Phase, StopCause, VringEpollError, Why};
+use vub_model::{Constants, Entry, Opened, Phase, Play, StopCause, VringEpollError, Why};
+use vub_proto::{DeviceOp, DeviceSaid};
 use vub_vring::{HostOp, Parts, PartsError, PendOp, PendSaid, PutSaid, TableRing, TableRingSaid};
 
 /// A worker (`VringEpollHandler` of the Rust crate `vhost-user-backend`): the queues of its mask, and where it stands.
@@ -40,6 +46,20 @@ pub struct VringEpollHandler {
     standing: Standing,
     /// What the last step used.
     finished: Option<Finished>,
+}
+
+impl Model for VringEpollHandler {
+    ghost use Rattle.vub_loop.specs.Worker.{Worker};
+
+    ghost Value = { Worker };
+
+    ghost view = { λ h. record {
+      opened = h.opened;
+      queues = h.queues;
+      count = h.count;
+      phase = h.standing;
+      finished = h.finished;
+    } };
 }
 
 impl VringEpollHandler {
@@ -68,7 +88,7 @@ impl VringEpollHandler {
     /// The worker stands in this phase, and used nothing.
     fn stand(&mut self, phase: Phase)
         requires { IsSound phase }
-        ensures { self.new ≡ record self.old { standing = phase; finished = None } }
+        ensures { self.new ≡ record self.old { phase = phase; finished = None } }
     {
         self.standing = Standing::new(phase);
         self.finished = None;
@@ -78,11 +98,10 @@ impl VringEpollHandler {
     fn poll<P: Parts>(&mut self, alloc: Global, parts: &mut P) -> Result<Polling, VringEpollError>
         ensures row { PollingBy (meaning P.Service.reply_of P.Service.after) result
             self.old self.new (P.state parts.old) (P.state parts.new) }
-        ensures least { PollsLeastBy polling_label result self.old (P.state parts.old) (P.state parts.new) }
-        ensures finished { IfOk result (λ polled. self.new.finished ≡ None) }
-        ensures stops { StopsBy self.old self.new (P.state parts.old) (P.state parts.new) }
-        ensures ok { IsOk result }
-        ensures frame { StepFrame self.old self.new (P.state parts.old) (P.state parts.new) result }
+        ensures least { PollingLeastBy result self.old (P.state parts.old) (P.state parts.new) }
+        ensures phase { OnPhases PollingIn result self.old self.new }
+        ensures finished { UsesNone result self.new }
+        ensures frame { SureFrame self.old self.new (P.state parts.old) (P.state parts.new) result }
     {
         match self.standing.phase() {
             Phase::Idle => {}
@@ -121,10 +140,10 @@ impl VringEpollHandler {
     ) -> Result<bool, VringEpollError>
         ensures row { PollsBy (meaning P.Service.reply_of P.Service.after) result
             self.old self.new (P.state parts.old) (P.state parts.new) }
-        ensures finished { IfOk result (λ played. self.new.finished ≡ None) }
-        ensures stops { StopsBy self.old self.new (P.state parts.old) (P.state parts.new) }
-        ensures ok { IsOk result }
-        ensures frame { StepFrame self.old self.new (P.state parts.old) (P.state parts.new) result }
+        ensures least { PollsLeastBy result self.old self.new (P.state parts.old) (P.state parts.new) }
+        ensures phase { OnPhases PolledIn result self.old self.new }
+        ensures finished { UsesNone result self.new }
+        ensures frame { SureFrame self.old self.new (P.state parts.old) (P.state parts.new) result }
     {
         match self.poll(alloc, parts)? {
             Polling::Nothing => Ok(false),
@@ -144,8 +163,6 @@ impl VringEpollHandler {
         ensures row { (g : Wiring) (worker : ℕ) → IsHandler g worker self.now
             → ReadsBy (P.state parts.old) (P.state parts.new) result
             (λ shared. after_event g worker shared object token) (read_error g worker token) }
-        ensures sound { IfOk result IsSound }
-        ensures stops { IfOk result (λ phase. IsHostStop phase → HasFailed (P.state parts.old) (P.state parts.new)) }
         ensures frame { ReadFrame (P.state parts.old) (P.state parts.new) result }
     {
         if token < self.queues.len() as u64 {
@@ -170,10 +187,10 @@ impl VringEpollHandler {
         alloc: Global,
         parts: &mut P,
     ) -> Result<bool, VringEpollError>
-        ensures row { StepsBy (meaning P.Service.reply_of P.Service.after) Label.Event result
+        ensures row { StepsBy (meaning P.Service.reply_of P.Service.after) Play.Event result
             self.old self.new (P.state parts.old) (P.state parts.new) }
-        ensures finished { IfOk result (λ played. self.new.finished ≡ None) }
-        ensures stops { StopsBy self.old self.new (P.state parts.old) (P.state parts.new) }
+        ensures phase { OnPhases (MadeIn is_polled) result self.old self.new }
+        ensures finished { UsesNone result self.new }
         ensures frame { StepFrame self.old self.new (P.state parts.old) (P.state parts.new) result }
     {
         match self.standing.phase() {
@@ -195,12 +212,11 @@ impl VringEpollHandler {
         alloc: Global,
         parts: &mut P,
     ) -> Result<bool, VringEpollError>
-        ensures row { StepsBy (meaning P.Service.reply_of P.Service.after) Label.Sweep result
+        ensures row { StepsBy (meaning P.Service.reply_of P.Service.after) Play.Sweep result
             self.old self.new (P.state parts.old) (P.state parts.new) }
-        ensures finished { IfOk result (λ played. self.new.finished ≡ None) }
-        ensures stops { StopsBy self.old self.new (P.state parts.old) (P.state parts.new) }
-        ensures ok { IsOk result }
-        ensures frame { StepFrame self.old self.new (P.state parts.old) (P.state parts.new) result }
+        ensures phase { OnPhases (MadeIn is_rung) result self.old self.new }
+        ensures finished { UsesNone result self.new }
+        ensures frame { SureFrame self.old self.new (P.state parts.old) (P.state parts.new) result }
     {
         match self.standing.phase() {
             Phase::Sweep => {}
@@ -223,6 +239,62 @@ impl VringEpollHandler {
         }
     }
 
+    /// Lets the device handle the event of this token, and answers the outcome.
+    fn hear<P: Parts>(
+        &mut self,
+        alloc: Global,
+        parts: &mut P,
+        token: u64,
+    ) -> Result<DeviceSaid, VringEpollError>
+        requires { phase_of self.old ≡ Phase.Heard token }
+        ensures row { HearingBy (meaning P.Service.reply_of P.Service.after) result
+            self.old self.new (P.state parts.old) (P.state parts.new) }
+        ensures device { IfOk result (λ said. HandledBy (telling P.Device.said P.Device.moved) said
+            self.old self.new (P.state parts.old) (P.state parts.new)) }
+        ensures finished { UsesNone result self.new }
+        ensures frame { HearFrame self.old self.new (P.state parts.old) (P.state parts.new) result }
+    {
+        let op = DeviceOp::HandleEvent {
+            token,
+            worker: self.opened.worker,
+        };
+        match parts.device(alloc, op) {
+            Ok(said) => {
+                self.stand(handled(&said));
+                Ok(said)
+            }
+            Err(_) => Err(VringEpollError::OutOfMemory),
+        }
+    }
+
+    /// Hear: the device handles the event of the listener that was heard, or refuses it, and then the worker stops. Takes
+    /// no memory, and is never refused.
+    pub fn hear_step<P: Parts>(
+        &mut self,
+        alloc: Global,
+        parts: &mut P,
+    ) -> Result<bool, VringEpollError>
+        ensures row { HearsBy (meaning P.Service.reply_of P.Service.after) result
+            self.old self.new (P.state parts.old) (P.state parts.new) }
+        ensures phase { OnPhases (MadeIn is_heard) result self.old self.new }
+        ensures device { IfOk result (λ made. HearsDevice (telling P.Device.said P.Device.moved) made
+            self.old self.new (P.state parts.old) (P.state parts.new)) }
+        ensures finished { UsesNone result self.new }
+        ensures frame { HearFrame self.old self.new (P.state parts.old) (P.state parts.new) result }
+    {
+        match self.standing.phase() {
+            Phase::Heard { token } => {
+                let token = *token;
+                self.hear(alloc, parts, token)?;
+                Ok(true)
+            }
+            _ => {
+                self.finished = None;
+                Ok(false)
+            }
+        }
+    }
+
     /// Take: the next entry of the first queue of the list is taken. Where the queue gives none, it leaves the list;
     /// where its ring is damaged, the worker stops.
     ///
@@ -233,10 +305,10 @@ impl VringEpollHandler {
         alloc: Global,
         parts: &mut P,
     ) -> Result<bool, VringEpollError>
-        ensures row { StepsBy (meaning P.Service.reply_of P.Service.after) Label.Take result
+        ensures row { StepsBy (meaning P.Service.reply_of P.Service.after) Play.Take result
             self.old self.new (P.state parts.old) (P.state parts.new) }
-        ensures finished { IfOk result (λ played. self.new.finished ≡ None) }
-        ensures stops { StopsBy self.old self.new (P.state parts.old) (P.state parts.new) }
+        ensures phase { OnPhases (MadeIn is_serving) result self.old self.new }
+        ensures finished { UsesNone result self.new }
         ensures frame { StepFrame self.old self.new (P.state parts.old) (P.state parts.new) result }
     {
         match self.standing.take() {
@@ -292,10 +364,10 @@ impl VringEpollHandler {
         alloc: Global,
         parts: &mut P,
     ) -> Result<bool, VringEpollError>
-        ensures row { StepsBy (meaning P.Service.reply_of P.Service.after) Label.Serve result
+        ensures row { StepsBy (meaning P.Service.reply_of P.Service.after) Play.Serve result
             self.old self.new (P.state parts.old) (P.state parts.new) }
-        ensures finished { IfOk result (λ played. self.new.finished ≡ None) }
-        ensures stops { StopsBy self.old self.new (P.state parts.old) (P.state parts.new) }
+        ensures phase { OnPhases (MadeIn is_taken) result self.old self.new }
+        ensures finished { UsesNone result self.new }
         ensures frame { StepFrame self.old self.new (P.state parts.old) (P.state parts.new) result }
     {
         match self.standing.take() {
@@ -326,16 +398,16 @@ impl VringEpollHandler {
         alloc: Global,
         parts: &mut P,
     ) -> Result<bool, VringEpollError>
-        ensures row { StepsBy (meaning P.Service.reply_of P.Service.after) Label.Put result
+        ensures row { StepsBy (meaning P.Service.reply_of P.Service.after) Play.Put result
             self.old self.new (P.state parts.old) (P.state parts.new) }
-        ensures finished { IfOk result (λ played.
-            self.new.finished ≡ finished_by Label.Put (phase_of self.old) (phase_of self.new)) }
-        ensures stops { StopsBy self.old self.new (P.state parts.old) (P.state parts.new) }
+        ensures phase { OnPhases (MadeIn is_served) result self.old self.new }
+        ensures finished { OnPhases (λ made before now. self.new.finished ≡ finished_by Play.Put before now)
+            result self.old self.new }
         ensures frame { StepFrame self.old self.new (P.state parts.old) (P.state parts.new) result }
     {
         match self.standing.take() {
             Phase::Served(entry, reply, queues) => {
-                match parts.put(alloc, entry.queue, &entry, reply.as_slice()) {
+                match parts.put(alloc, &entry, reply.as_slice()) {
                     Ok(PutSaid::Done) => {
                         self.stand(serving_of(queues));
                         self.finished = Some(Finished { entry, reply });
@@ -358,52 +430,59 @@ impl VringEpollHandler {
         }
     }
 
-    /// Plays the step that the worker may play, and answers its label; `Pass` where it has none.
+    /// Makes the step that the worker may make, if it has one.
     ///
     /// # Errors
     /// Want of memory leaves the worker and the parts as they were.
-    pub fn turn<P: Parts>(&mut self, alloc: Global, parts: &mut P) -> Result<Label, VringEpollError>
+    pub fn turn<P: Parts>(
+        &mut self,
+        alloc: Global,
+        parts: &mut P,
+    ) -> Result<Turned, VringEpollError>
         ensures row { TurnsBy (meaning P.Service.reply_of P.Service.after) result
             self.old self.new (P.state parts.old) (P.state parts.new) }
-        ensures least { PollsLeastBy (λ l. l) result self.old (P.state parts.old) (P.state parts.new) }
-        ensures finished { IfOk result (λ label.
-            self.new.finished ≡ finished_by label (phase_of self.old) (phase_of self.new)) }
-        ensures stops { StopsBy self.old self.new (P.state parts.old) (P.state parts.new) }
-        ensures frame { StepFrame self.old self.new (P.state parts.old) (P.state parts.new) result }
+        ensures least { TurnsLeastBy result self.old (P.state parts.old) (P.state parts.new) }
+        ensures phase { OnPhases TurnedIn result self.old self.new }
+        ensures finished { OnPhases (λ t before now. self.new.finished ≡ finished_in t before now)
+            result self.old self.new }
+        ensures device { TurnsDevice (telling P.Device.said P.Device.moved) self.old
+            (P.state parts.old) (P.state parts.new) result }
+        ensures frame { TurnFrame self.old self.new (P.state parts.old) (P.state parts.new) result }
     {
         match self.standing.phase() {
             Phase::Idle => match self.poll(alloc, parts)? {
-                Polling::Nothing => Ok(Label::Pass),
-                Polling::Member(object) => Ok(Label::Poll { object }),
-                Polling::Failed => Ok(Label::Pass),
+                Polling::Nothing => Ok(Turned::Pass),
+                Polling::Member(object) => Ok(Turned::Played(Play::Poll { object })),
+                Polling::Failed => Ok(Turned::Failed),
             },
             Phase::Polled { .. } => {
                 self.event_step(alloc, parts)?;
-                Ok(Label::Event)
+                Ok(Turned::Played(Play::Event))
             }
             Phase::Sweep => {
                 self.sweep_step(alloc, parts)?;
-                Ok(Label::Sweep)
+                Ok(Turned::Played(Play::Sweep))
             }
-            Phase::Heard { .. } => {
-                self.finished = None;
-                Ok(Label::Pass)
+            Phase::Heard { token } => {
+                let token = *token;
+                let said = self.hear(alloc, parts, token)?;
+                Ok(Turned::Played(Play::Hear(said)))
             }
             Phase::Serving(_) => {
                 self.take_step(alloc, parts)?;
-                Ok(Label::Take)
+                Ok(Turned::Played(Play::Take))
             }
             Phase::Taken(_, _) => {
                 self.serve_step(alloc, parts)?;
-                Ok(Label::Serve)
+                Ok(Turned::Played(Play::Serve))
             }
             Phase::Served(_, _, _) => {
                 self.put_step(alloc, parts)?;
-                Ok(Label::Put)
+                Ok(Turned::Played(Play::Put))
             }
             Phase::Stopped(_) => {
                 self.finished = None;
-                Ok(Label::Pass)
+                Ok(Turned::Pass)
             }
         }
     }
@@ -444,6 +523,7 @@ impl VringEpollHandler {
     ) -> Result<VringEpollHandler, OutOfMemory>
         ensures made { IfOk result (λ h. ForSome (P.state parts.old).constants
             (λ told. h ≡ new_handler told opened)) }
+        ensures new { IfOk result (IsNew opened) }
         ensures frame { IsUntouched (P.state parts.old) (P.state parts.new) }
     {
         let constants = parts.constants(alloc)?;

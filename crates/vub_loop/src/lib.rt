@@ -10,9 +10,11 @@ mod polling;
 mod reading;
 mod said;
 mod standing;
+mod turned;
 
 pub use finished::Finished;
 pub use handler::VringEpollHandler;
+pub use turned::Turned;
 
 #[cfg(test)]
 mod tests;

@@ -1,7 +1,12 @@
-ghost use Rattle.std.specs.Prelude.{◌≡◌, drop};
-ghost use Rattle.vub_model.specs.Work.{serving, stopped, queues_numbered, why_of};
+ghost use Rattle.std.specs.Prelude.{◌≡◌, ℕ, drop};
+ghost use Rattle.vub_base.specs.Causes.{Rose};
+ghost use Rattle.vub_model.specs.Work.{after_heard, serving, stopped, queues_numbered, why_of};
+ghost use Rattle.vub_vring.specs.Calls.{IsCounted};
+ghost use Rattle.vub_loop.specs.Faults.{IsDeviceStop, IsHostStop};
+ghost use Rattle.vub_loop.specs.Sound.{IsSound};
 
 use vub_model::{Phase, Queues, StopCause, VringEpollError, Why};
+use vub_proto::DeviceSaid;
 use vub_queue::PutFault;
 use vub_vring::Pending;
 
@@ -19,6 +24,19 @@ pub(crate) fn refusal(fault: PutFault) -> Why
     match fault {
         PutFault::RoomOutside => Why::RoomOutside,
         PutFault::RingOutside => Why::RingOutside,
+    }
+}
+
+/// The phase after the device has handled a listener's event: idle, or stopped where it refused.
+pub(crate) fn handled(said: &DeviceSaid) -> Phase
+    ensures phase { result ≡ after_heard said.now }
+    ensures sound { IsSound result }
+    ensures host { ¬ IsHostStop result }
+    ensures device { (before now : ℕ) → IsCounted before now said.now → IsDeviceStop result → Rose before now }
+{
+    match said {
+        DeviceSaid::Refused(number) => stopped_by(Why::Device(*number)),
+        _ => Phase::Idle,
     }
 }
 

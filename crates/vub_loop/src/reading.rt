@@ -1,10 +1,7 @@
-ghost use Rattle.std.specs.Prelude.{◌≡◌, if◌then◌else◌, is_some, IfOk};
+ghost use Rattle.std.specs.Prelude.{◌≡◌, if◌then◌else◌, is_some};
 ghost use Rattle.vub_model.specs.declared.cause.StopCause.TheVariants.{Exit};
 ghost use Rattle.vub_model.specs.declared.phase.Phase.TheVariants.{Idle, Stopped};
 ghost use Rattle.vub_model.specs.Work.{after_kick, after_bell, after_listener};
-ghost use Rattle.vub_vring.specs.PartsState.{HasFailed};
-ghost use Rattle.vub_loop.specs.Faults.{IsHostStop};
-ghost use Rattle.vub_loop.specs.Sound.{IsSound};
 ghost use Rattle.vub_loop.specs.Stepping.{ReadsBy, ReadFrame};
 
 use crate::said::{was_counted, was_member};
@@ -24,8 +21,6 @@ pub(crate) fn kicked<P: Parts>(
 ) -> Result<Phase, VringEpollError>
     ensures row { ReadsBy (P.state parts.old) (P.state parts.new) result
         (λ shared. after_kick shared queue object) VringEpollError.HandleEventReadKick }
-    ensures sound { IfOk result IsSound }
-    ensures stops { IfOk result (λ phase. IsHostStop phase → HasFailed (P.state parts.old) (P.state parts.new)) }
     ensures frame { ReadFrame (P.state parts.old) (P.state parts.new) result }
 {
     let Ok(one) = Queues::one(alloc, queue) else {
@@ -63,8 +58,6 @@ pub(crate) fn rung<P: Parts>(
 ) -> Result<Phase, VringEpollError>
     ensures row { ReadsBy (P.state parts.old) (P.state parts.new) result
         (λ shared. after_bell shared opened.bell opened.exit) VringEpollError.HandleVringEnabledEventConsume }
-    ensures sound { IfOk result IsSound }
-    ensures stops { IfOk result (λ phase. IsHostStop phase → HasFailed (P.state parts.old) (P.state parts.new)) }
     ensures frame { ReadFrame (P.state parts.old) (P.state parts.new) result }
 {
     match parts.host(alloc, HostOp::Consume(opened.bell)) {
@@ -95,8 +88,6 @@ pub(crate) fn heard<P: Parts>(
 ) -> Result<Phase, VringEpollError>
     ensures row { ReadsBy (P.state parts.old) (P.state parts.new) result
         (λ shared. after_listener shared list object token) VringEpollError.HandleEventReadKick }
-    ensures sound { IfOk result IsSound }
-    ensures stops { IfOk result (λ phase. IsHostStop phase → HasFailed (P.state parts.old) (P.state parts.new)) }
     ensures frame { ReadFrame (P.state parts.old) (P.state parts.new) result }
 {
     match parts.host(alloc, HostOp::ConsumeAs(list, object, token)) {

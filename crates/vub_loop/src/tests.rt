@@ -1,6 +1,6 @@
 ghost use Rattle.std.specs.Prelude.{[], None};
 
-use crate::VringEpollHandler;
+use crate::{Turned, VringEpollHandler};
 use std::alloc::Global;
 use std::process::Abort;
 use std::test::Fail;
@@ -8,13 +8,13 @@ use vub_base::{Bytes, Listed, OutOfMemory};
 use vub_event::{EventSet, Host, HostError, MemHost, Ready};
 use vub_mem::GuestMemory;
 use vub_model::{
-    Constants, Entry, Label, Opened, Phase, RingOp, RingSaid, StopCause, VringEpollError,
+    Constants, Entry, Opened, Phase, Play, RingOp, RingSaid, StopCause, VringEpollError,
 };
-use vub_proto::Service;
+use vub_proto::{DeviceOp, DeviceSaid, FixedDevice, Service};
 use vub_queue::{Chain, Segments};
 use vub_vring::{
     HostOp, HostSaid, KickSaid, OwnedParts, Parts, PartsError, PendOp, PendSaid, Pending, PutSaid,
-    Store, TableRing, TableRingSaid, VringState,
+    Store, TableRing, TableRingSaid, VringState, play_device,
 };
 
 /// A service whose replies are empty.
@@ -38,23 +38,30 @@ struct Silent {
     ready: Option<Ready>,
     /// How many entries are left.
     left: u32,
+    device: FixedDevice,
 }
 
 impl Parts for Silent {
     type Service = Quiet;
 
-    ghost shared = { λ _. None };
+    type Device = FixedDevice;
 
-    ghost loan = { λ _. (0, 0) };
-
-    ghost fault_count = { λ _. 0 };
-
-    ghost never_fails = { λ _. Unit {0} };
-
-    ghost told_constants = { λ _. None };
+    ghost state = { λ p. record {
+      shared = None;
+      device = None;
+      faults = 0;
+      refusals = p.device.refusals;
+      NeverFails = Unit {0};
+      loan = [];
+      constants = None;
+    } };
 
     fn faults(&self) -> u64 {
         0
+    }
+
+    fn refusals(&self) -> u64 {
+        self.device.refusals
     }
 
     fn ring(&mut self, _alloc: Global, _queue: u32, _op: RingOp) -> Result<RingSaid, PartsError> {
@@ -93,13 +100,7 @@ impl Parts for Silent {
         Ok(KickSaid::Serve)
     }
 
-    fn put(
-        &mut self,
-        _alloc: Global,
-        _queue: u32,
-        _entry: &Entry,
-        _reply: &[u8],
-    ) -> Result<PutSaid, PartsError> {
+    fn put(&mut self, _alloc: Global, _entry: &Entry, _reply: &[u8]) -> Result<PutSaid, PartsError> {
         Ok(PutSaid::Done)
     }
 
@@ -107,6 +108,7 @@ impl Parts for Silent {
         match op {
             HostOp::Ready(_) => Ok(HostSaid::Ready(self.ready.take())),
             HostOp::Consume(_) => Ok(HostSaid::Count(1)),
+            HostOp::ConsumeAs(_, _, _) => Ok(HostSaid::Member(true)),
             _ => Ok(HostSaid::Done),
         }
     }
@@ -117,6 +119,10 @@ impl Parts for Silent {
 
     fn service(&mut self, alloc: Global, _entry: &Entry) -> Result<Bytes, PartsError> {
         Ok(Bytes::new(alloc))
+    }
+
+    fn device(&mut self, alloc: Global, op: DeviceOp) -> Result<DeviceSaid, PartsError> {
+        play_device(alloc, &mut self.device, op)
     }
 
     fn constants(&mut self, alloc: Global) -> Result<Constants, OutOfMemory> {
@@ -140,6 +146,20 @@ fn one_worker(alloc: Global) -> Result<Constants, OutOfMemory> {
     })
 }
 
+/// A device of one queue.
+fn one_queue(alloc: Global) -> Result<FixedDevice, OutOfMemory> {
+    let constants = one_worker(alloc)?;
+    Ok(FixedDevice {
+        queues: 1,
+        max: 256,
+        features: 0,
+        protocol: 0,
+        masks: constants.masks,
+        exits: constants.exits,
+        refusals: 0,
+    })
+}
+
 const OPENED: Opened = Opened {
     worker: 0,
     list: 0,
@@ -157,20 +177,53 @@ fn report(object: u32, token: u64) -> Option<Ready> {
 }
 
 /// Parts whose next poll gives this member, with one entry left.
-fn with_report(ready: Option<Ready>) -> Silent {
-    Silent { ready, left: 1 }
+fn with_report(alloc: Global, ready: Option<Ready>) -> Result<Silent, OutOfMemory> {
+    Ok(Silent {
+        ready,
+        left: 1,
+        device: one_queue(alloc)?,
+    })
 }
 
-/// Opens the worker, and plays one turn for each label, which it has to answer.
+/// What a turn came to, without what it carries.
+#[derive(Clone, Copy, Debug, PartialEq, Eq)]
+enum Came {
+    Pass,
+    Failed,
+    Poll(u32),
+    Event,
+    Sweep,
+    Hear,
+    Take,
+    Serve,
+    Put,
+}
+
+fn came(turned: &Turned) -> Came {
+    match turned {
+        Turned::Played(Play::Poll { object }) => Came::Poll(*object),
+        Turned::Played(Play::Event) => Came::Event,
+        Turned::Played(Play::Sweep) => Came::Sweep,
+        Turned::Played(Play::Hear(_)) => Came::Hear,
+        Turned::Played(Play::Take) => Came::Take,
+        Turned::Played(Play::Serve) => Came::Serve,
+        Turned::Played(Play::Put) => Came::Put,
+        Turned::Failed => Came::Failed,
+        _ => Came::Pass,
+    }
+}
+
+/// Opens the worker, and plays these turns.
 fn after<P: Parts>(
     rt: &impl Abort,
     alloc: Global,
     parts: &mut P,
-    labels: &[Label],
+    turns: &[Came],
 ) -> Result<VringEpollHandler, Fail> {
     let mut worker = VringEpollHandler::over(alloc, parts, OPENED)?;
-    for label in labels {
-        assert_eq!(rt; worker.turn(alloc, parts)?, *label);
+    for turn in turns {
+        let turned = worker.turn(alloc, parts)?;
+        assert_eq!(rt; came(&turned), *turn);
     }
     Ok(worker)
 }
@@ -178,13 +231,13 @@ fn after<P: Parts>(
 #[test]
 fn an_entry_is_taken_served_and_used(rt: HostRuntime) -> Result<(), Fail> {
     let alloc = rt.alloc();
-    let mut parts = with_report(report(7, 0));
+    let mut parts = with_report(alloc, report(7, 0))?;
     let used = [
-        Label::Poll { object: 7 },
-        Label::Event,
-        Label::Take,
-        Label::Serve,
-        Label::Put,
+        Came::Poll(7),
+        Came::Event,
+        Came::Take,
+        Came::Serve,
+        Came::Put,
     ];
     let mut worker = after(&rt, alloc, &mut parts, &used)?;
     assert!(rt; worker.take_finished().is_some());
@@ -195,13 +248,13 @@ fn an_entry_is_taken_served_and_used(rt: HostRuntime) -> Result<(), Fail> {
 #[test]
 fn a_worker_without_entries_is_idle_again(rt: HostRuntime) -> Result<(), Fail> {
     let alloc = rt.alloc();
-    let mut parts = with_report(report(7, 0));
+    let mut parts = with_report(alloc, report(7, 0))?;
     parts.left = 0;
     let looked = [
-        Label::Poll { object: 7 },
-        Label::Event,
-        Label::Take,
-        Label::Pass,
+        Came::Poll(7),
+        Came::Event,
+        Came::Take,
+        Came::Pass,
     ];
     let worker = after(&rt, alloc, &mut parts, &looked)?;
     assert!(rt; matches!(worker.phase(), Phase::Idle));
@@ -211,7 +264,7 @@ fn a_worker_without_entries_is_idle_again(rt: HostRuntime) -> Result<(), Fail> {
 #[test]
 fn an_idle_worker_polls(rt: HostRuntime) -> Result<(), Fail> {
     let alloc = rt.alloc();
-    let mut parts = with_report(report(7, 0));
+    let mut parts = with_report(alloc, report(7, 0))?;
     let constants = one_worker(alloc)?;
     let mut worker = VringEpollHandler::from_constants(alloc, &constants, OPENED)?;
     assert!(rt; worker.poll_step(alloc, &mut parts)?);
@@ -221,8 +274,8 @@ fn an_idle_worker_polls(rt: HostRuntime) -> Result<(), Fail> {
 #[test]
 fn a_kick_is_served(rt: HostRuntime) -> Result<(), Fail> {
     let alloc = rt.alloc();
-    let mut parts = with_report(report(7, 0));
-    let mut worker = after(&rt, alloc, &mut parts, &[Label::Poll { object: 7 }])?;
+    let mut parts = with_report(alloc, report(7, 0))?;
+    let mut worker = after(&rt, alloc, &mut parts, &[Came::Poll(7)])?;
     assert!(rt; worker.event_step(alloc, &mut parts)?);
     assert!(rt; worker.take_step(alloc, &mut parts)?);
     Ok(())
@@ -231,8 +284,8 @@ fn a_kick_is_served(rt: HostRuntime) -> Result<(), Fail> {
 #[test]
 fn an_entry_in_hand_is_served_and_put(rt: HostRuntime) -> Result<(), Fail> {
     let alloc = rt.alloc();
-    let mut parts = with_report(report(7, 0));
-    let taken = [Label::Poll { object: 7 }, Label::Event, Label::Take];
+    let mut parts = with_report(alloc, report(7, 0))?;
+    let taken = [Came::Poll(7), Came::Event, Came::Take];
     let mut worker = after(&rt, alloc, &mut parts, &taken)?;
     assert!(rt; worker.serve_step(alloc, &mut parts)?);
     assert!(rt; worker.put_step(alloc, &mut parts)?);
@@ -242,10 +295,20 @@ fn an_entry_in_hand_is_served_and_put(rt: HostRuntime) -> Result<(), Fail> {
 #[test]
 fn a_bell_is_swept(rt: HostRuntime) -> Result<(), Fail> {
     let alloc = rt.alloc();
-    let mut parts = with_report(report(0, 1));
-    let rung = [Label::Poll { object: 0 }, Label::Event];
+    let mut parts = with_report(alloc, report(0, 1))?;
+    let rung = [Came::Poll(0), Came::Event];
     let mut worker = after(&rt, alloc, &mut parts, &rung)?;
     assert!(rt; worker.sweep_step(alloc, &mut parts)?);
+    Ok(())
+}
+
+#[test]
+fn a_listener_is_heard(rt: HostRuntime) -> Result<(), Fail> {
+    let alloc = rt.alloc();
+    let mut parts = with_report(alloc, report(7, 2))?;
+    let heard = [Came::Poll(7), Came::Event, Came::Hear, Came::Pass];
+    let mut worker = after(&rt, alloc, &mut parts, &heard)?;
+    assert!(rt; !worker.hear_step(alloc, &mut parts)?);
     Ok(())
 }
 
@@ -289,16 +352,18 @@ fn after_over_store(
     rt: &impl Abort,
     alloc: Global,
     store: &mut Store<()>,
-    labels: &[Label],
+    turns: &[Came],
 ) -> Result<VringEpollHandler, Fail> {
     let constants = one_worker(alloc)?;
+    let mut device = one_queue(alloc)?;
     let mut service = Quiet {};
     let mut parts = OwnedParts {
         store,
+        device: &mut device,
         service: &mut service,
         constants: &constants,
     };
-    after(rt, alloc, &mut parts, labels)
+    after(rt, alloc, &mut parts, turns)
 }
 
 #[test]
@@ -306,11 +371,11 @@ fn a_pending_queue_is_looked_at(rt: HostRuntime) -> Result<(), Fail> {
     let alloc = rt.alloc();
     let mut store = store_over(alloc, rung_host(alloc)?)?;
     let swept = [
-        Label::Poll { object: 0 },
-        Label::Event,
-        Label::Sweep,
-        Label::Take,
-        Label::Pass,
+        Came::Poll(0),
+        Came::Event,
+        Came::Sweep,
+        Came::Take,
+        Came::Pass,
     ];
     let worker = after_over_store(&rt, alloc, &mut store, &swept)?;
     assert!(rt; matches!(worker.phase(), Phase::Idle));
@@ -321,7 +386,7 @@ fn a_pending_queue_is_looked_at(rt: HostRuntime) -> Result<(), Fail> {
 fn a_poll_that_fails_stops_the_worker(rt: HostRuntime) -> Result<(), Fail> {
     let alloc = rt.alloc();
     let mut store = store_over(alloc, failing_host(alloc)?)?;
-    let worker = after_over_store(&rt, alloc, &mut store, &[Label::Pass])?;
+    let worker = after_over_store(&rt, alloc, &mut store, &[Came::Failed])?;
     let stopped = match worker.phase() {
         Phase::Stopped(cause) => Some(*cause),
         _ => None,
