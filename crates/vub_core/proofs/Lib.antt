@@ -3,6 +3,7 @@ pub mod Counted
 pub mod Flags
 pub mod Kept
 pub mod Longer
+pub mod Made
 pub mod OneOutcome
 pub mod OpenedFor
 pub mod OpenedWorkers
@@ -11,5 +12,6 @@ pub mod Rests
 pub mod Spans
 pub mod Stepping
 pub mod Turned
+pub mod Turning
 pub mod Uses
 pub mod WorkerCount

@@ -22,7 +22,7 @@ use Rattle.vub_core.specs.Places.{IsFootprint}
 use Rattle.vub_core.specs.Recorded.{uses_in, IsWritten}
 use Rattle.vub_core.proofs.Turned.{turned}
 
-phase-here : (workers : List Worker) (k : ℕ) (old : Worker) (phases : List Phase) → phases ≡ map (λ h. phase_of h) workers → k < length workers → old ≡ get_or workers k old → phase_of old ≡ phase_at phases k
+pub phase-here : (workers : List Worker) (k : ℕ) (old : Worker) (phases : List Phase) → phases ≡ map (λ h. phase_of h) workers → k < length workers → old ≡ get_or workers k old → phase_of old ≡ phase_at phases k
 phase-here workers k old phases are within is =
     ap (λ h. phase_of h) is ∙ sym (get_or-map (λ h. phase_of h) workers k old (Stopped Exit) within) ∙ ap (λ ps. phase_at ps k) (sym are)
 

@@ -1,5 +1,5 @@
 //! The rings and the pending sets of a new machine.
-ghost use Rattle.std.specs.Prelude.{◌≡◌, ◌≤◌, ◌<◌, ◌^◌, ◌==◌, [], true, map, find, Some, Ok, IfOk, IfSome};
+ghost use Rattle.std.specs.Prelude.{◌≡◌, ◌≤◌, ◌<◌, ◌%◌, ◌^◌, ◌==◌, [], true, map, find, Some, Ok, IfOk, IfSome};
 ghost use Rattle.std.specs.List.{AllByRecursion, range_with_len};
 ghost use Rattle.std.specs.Option.{option_copied};
 ghost use Rattle.std.specs.Int.{is_power_of_two};
@@ -18,7 +18,8 @@ use vub_vring::{Pending, VringState};
 fn given_queue(max: u16, ring: &GivenRing) -> Result<Queue, QueueError>
     requires power { is_power_of_two max ≡ true }
     requires fit { IsFit max ring.now }
-    ensures { result ≡ Ok (given_queue max ring.now) }
+    ensures queue { result ≡ Ok (given_queue max ring.now) }
+    ensures base { ring.now.base % 2 ^ 16 ≡ ring.now.base }
 {
     let mut queue = Queue::new(max)?;
     queue.set_size(ring.size)?;

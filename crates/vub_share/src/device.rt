@@ -1,6 +1,6 @@
-ghost use Rattle.std.specs.Prelude.{◌≡◌, ◌≤◌, Some};
+ghost use Rattle.std.specs.Prelude.{◌≡◌, ◌≤◌, Some, take, drop};
 ghost use Rattle.vub_base.specs.Causes.{one_more, Rose};
-ghost use Rattle.vub_proto.specs.Device.{done_by};
+ghost use Rattle.vub_proto.specs.Device.{done_by, CountsRefusals};
 ghost use Rattle.vub_proto.specs.declared.device_said.DeviceSaid.{DeviceSaid};
 ghost use Rattle.vub_share.specs.Device.{new_device, unless_listed, numbered, lies_inside};
 
@@ -54,6 +54,7 @@ impl ScriptDevice {
     fn refuse(&mut self, number: i32) -> Refused
         ensures said { result.0 ≡ number }
         ensures counted { self.new ≡ record self.old { refusals = one_more self.old.refusals } }
+        ensures later { self.old.refusals ≤ self.new.refusals }
     {
         self.refusals = self.refusals.saturating_add(1);
         Refused(number)
@@ -66,10 +67,11 @@ impl ScriptDevice {
     fn call(&mut self) -> Result<(), Refused>
         ensures said { done_by result ≡ unless_listed self.old DeviceSaid.Done }
         ensures left { self.new ≡ numbered self.old (done_by result) }
+        ensures count { CountsRefusals self.old.refusals self.new.refusals result }
     {
         let call = self.calls;
         self.calls = call.saturating_add(1);
-        if self.form.refuse.as_slice().iter().any(|n| *n == call) {
+        if self.form.refuse.as_slice().contains(&call) {
             Err(self.refuse(FAILED))
         } else {
             Ok(())
@@ -83,11 +85,23 @@ impl ScriptDevice {
     fn unknown_call(&mut self) -> Refused
         ensures said { DeviceSaid.Refused result.0 ≡ unless_listed self.old (DeviceSaid.Refused UNSUPPORTED) }
         ensures left { self.new ≡ numbered self.old (DeviceSaid.Refused result.0) }
+        ensures later { self.old.refusals ≤ self.new.refusals }
+        ensures rose { Rose self.old.refusals self.new.refusals }
     {
         match self.call() {
             Ok(()) => self.refuse(UNSUPPORTED),
             Err(refused) => refused,
         }
+    }
+
+    /// The bytes of the config space from this offset on, at most so many.
+    #[tactic(auto, using(std::proofs::lemmas::List::take_min, std::proofs::lemmas::List::drop_min))]
+    fn config_at(&self, offset: u32, size: u32) -> &[u8]
+        ensures { result.now ≡ take size (drop offset self.now.form.config) }
+    {
+        let config = self.form.config.as_slice();
+        let behind = &config[(offset as usize).min(config.len())..];
+        &behind[..(size as usize).min(behind.len())]
     }
 
     /// Whether so many bytes from this offset on lie inside the config space.
@@ -163,16 +177,7 @@ impl VhostUserBackendMut for ScriptDevice {
     fn set_backend_req_fd(&mut self, _backend: Backend) {}
 
     fn get_config(&mut self, alloc: Global, offset: u32, size: u32) -> Result<Bytes, OutOfMemory> {
-        let bytes = self
-            .form
-            .config
-            .as_slice()
-            .iter()
-            .copied()
-            .skip(offset as usize)
-            .take(size as usize)
-            .collect(alloc)?;
-        Ok(Bytes::from_vec(bytes))
+        Bytes::from_slice(alloc, self.config_at(offset, size))
     }
 
     fn set_config(&mut self, offset: u32, buf: &[u8]) -> Result<(), Refused> {
