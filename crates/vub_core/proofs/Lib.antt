@@ -9,7 +9,7 @@ pub mod OpenedFor
 pub mod OpenedWorkers
 pub mod Outcomes
 pub mod Rests
-pub mod Spans
+pub mod Runs
 pub mod Stepping
 pub mod Turned
 pub mod Turning

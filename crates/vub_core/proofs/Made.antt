@@ -52,7 +52,7 @@ tells-from {D} t (Some e) (Some f) d cs is told = (let T : D → Type 0 = λ x. 
 -- Counts
 
 refused-append : (xs ys : List Call) → refused_in (xs ++ ys) ≡ refused_in xs + refused_in ys
-refused-append [] ys = refl
+refused-append [] ys = (let none : refused_in [] ≡ 0 = refl in omega (arith, none))
 refused-append (x ∷ xs) ys = (let rest = refused-append xs ys in omega arith)
 
 rose-append : (a b old mid new : ℕ) → RoseBy a old mid → RoseBy b mid new → RoseBy (a + b) old new

@@ -59,15 +59,15 @@ fn play_of(turned: Turned) -> Play
 ///
 /// # Errors
 /// Want of memory leaves service and device as they were.
-fn play_worker<D: VhostUserBackendMut, V: Service>(
+fn play_worker<'a, D: VhostUserBackendMut, V: Service>(
     alloc: Global,
-    store: &mut Store<()>,
-    device: &mut D,
-    service: &mut V,
-    constants: &Constants,
+    store: &'a mut Store<()>,
+    device: &'a mut D,
+    service: &'a mut V,
+    constants: &'a Constants,
     worker: &mut VringEpollHandler,
 ) -> Result<Play, OutOfMemory>
-    requires { NeverFails store.old }
+    requires { NeverFails store.old.host }
     ensures row { ForHandler worker.old (λ g k. IfOk result (λ l. IsTurn (meaning_by V.Service) g k l
         (phase_of worker.old) (phase_of worker.new)
         (shared_of store.old service.old) (shared_of store.new service.new))) }

@@ -4,7 +4,7 @@ use Rattle.vub_core.specs.DeviceRun.{state_by, telling_by}
 use Rattle.vub_core.specs.Machine.{world_of}
 use Rattle.vub_core.specs.Meanings.{meaning_by}
 use Rattle.vub_core.proofs.Kept.{on-err}
-use Rattle.vub_core.proofs.Longer.{played-more, cut-short}
+use Rattle.vub_core.proofs.Longer.{played-none, played-more, played-all, cut-short}
 use Rattle.vub_core.proofs.Made.{made-same}
 use Rattle.vub_core.proofs.playing.play.Goals as goal
 
@@ -45,3 +45,24 @@ loop-party-preserved g c =
             played-more m t c.args.schedule.now c.loop-party.labels.items c.push.new.self.items _ _ _ d e f c.loop-party.party-index 0 c.in_ok-play.play c.loop-party-test.true so.1 (c.in_ok-play.ensures.turn w control so.0 none) (c.in_ok-play.ensures.least w control so.0 none) (c.in_ok-play.ensures.made w control so.0 none) push,
           ),
     )
+
+pub loop-party-init : goal.loop-party-init
+loop-party-init g c = (
+    c.requires.sound,
+    ap length c.requires.none,
+    refl,
+    λ w control are none. (are, played-none (meaning_by g.V.Service) (telling_by g.D.VhostUserBackendMut) c.args.schedule.now (world_of w control c.args.guest.now c.args.machine.now c.args.service.now) c.args.labels.now.items (state_by g.D.VhostUserBackendMut c.args.device.now) c.requires.none),
+  )
+
+pub returns-in_err-reserve-clause-workers : goal.returns-in_err-reserve-clause-workers
+returns-in_err-reserve-clause-workers g c w control are none = (c.loop-party.invariant.3 w control are none).0
+
+pub returns-in_err-play-clause-workers : goal.returns-in_err-play-clause-workers
+returns-in_err-play-clause-workers g c w control are none = c.turn.ensures.workers w control (c.loop-party.invariant.3 w control are none).0 none
+
+pub returns-clause-workers : goal.returns-clause-workers
+returns-clause-workers g c w control are none = (c.loop-party.invariant.3 w control are none).0
+
+pub returns-clause-played : goal.returns-clause-played
+returns-clause-played g c w control are none =
+    played-all (meaning_by g.V.Service) (telling_by g.D.VhostUserBackendMut) c.args.schedule.now c.loop-party.labels.items (world_of w control c.args.guest.now c.args.machine.now c.args.service.now) (world_of w control c.args.guest.now c.loop-party.machine c.loop-party.service) (state_by g.D.VhostUserBackendMut c.args.device.now) (state_by g.D.VhostUserBackendMut c.loop-party.device) c.loop-party.party-index c.loop-party-test.false (c.loop-party.invariant.3 w control are none).1

@@ -1,5 +1,5 @@
 use Rattle.std.proofs.Common.{◌∙◌, sym}
-use Rattle.vub_core.proofs.Spans.{push_none}
+use Rattle.vub_core.proofs.Runs.{push_none}
 use Rattle.vub_core.proofs.spans.push_content.Goals as goal
 
 pub returns-else-has_flag : goal.returns-else-has_flag

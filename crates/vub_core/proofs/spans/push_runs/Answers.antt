@@ -1,5 +1,5 @@
 use Rattle.std.proofs.Common.{◌∙◌, sym, arith}
-use Rattle.vub_core.proofs.Spans.{push_run, pass_byte}
+use Rattle.vub_core.proofs.Runs.{push_run, pass_byte}
 use Rattle.vub_core.proofs.spans.push_runs.Goals as goal
 
 pub loop-at-preserved-then-is_flagged : goal.loop-at-preserved-then-is_flagged

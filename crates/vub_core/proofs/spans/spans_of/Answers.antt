@@ -1,6 +1,6 @@
 use Rattle.std.proofs.Common.{sym}
 use Rattle.vub_model.specs.declared.setup.Object.TheVariants.{Event}
-use Rattle.vub_core.proofs.Spans.{next_content}
+use Rattle.vub_core.proofs.Runs.{next_content}
 use Rattle.vub_core.proofs.spans.spans_of.Goals as goal
 
 pub loop-number-preserved : goal.loop-number-preserved
