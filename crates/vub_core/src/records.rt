@@ -149,14 +149,7 @@ impl Records {
         ensures err { OnErr result ((play.now ≡ Play.Take) ⊎ IsSome finished) }
         ensures written { IsWritten memory.now.guest.regions footprint play.now phase.now finished self.old.written self.new.written }
     {
-        flag(
-            &mut self.written,
-            memory,
-            footprint,
-            play,
-            phase,
-            &finished,
-        );
+        flag(&mut self.written, memory, footprint, play, phase, &finished);
         push_finished(&mut self.uses, finished)?;
         push_take(alloc, &mut self.takes, play, phase)
     }

@@ -128,7 +128,14 @@ pub(crate) fn worker_turn<D: VhostUserBackendMut, V: Service>(
     }
     let handler = &mut machine.workers[worker as usize];
     let footprint = next_footprint(machine.store.rings.as_slice(), handler.phase());
-    let play = play_worker(alloc, &mut machine.store, device, service, constants, handler)?;
+    let play = play_worker(
+        alloc,
+        &mut machine.store,
+        device,
+        service,
+        constants,
+        handler,
+    )?;
     let finished = handler.take_finished();
     machine.records.record(
         alloc,

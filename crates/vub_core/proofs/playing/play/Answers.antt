@@ -48,11 +48,11 @@ loop-party-preserved g c =
 
 pub loop-party-init : goal.loop-party-init
 loop-party-init g c = (
-    c.requires.sound,
-    ap length c.requires.none,
-    refl,
-    λ w control are none. (are, played-none (meaning_by g.V.Service) (telling_by g.D.VhostUserBackendMut) c.args.schedule.now (world_of w control c.args.guest.now c.args.machine.now c.args.service.now) c.args.labels.now.items (state_by g.D.VhostUserBackendMut c.args.device.now) c.requires.none),
-  )
+  c.requires.sound,
+  ap length c.requires.none,
+  refl,
+  λ w control are none. (are, played-none (meaning_by g.V.Service) (telling_by g.D.VhostUserBackendMut) c.args.schedule.now (world_of w control c.args.guest.now c.args.machine.now c.args.service.now) c.args.labels.now.items (state_by g.D.VhostUserBackendMut c.args.device.now) c.requires.none),
+)
 
 pub returns-in_err-reserve-clause-workers : goal.returns-in_err-reserve-clause-workers
 returns-in_err-reserve-clause-workers g c w control are none = (c.loop-party.invariant.3 w control are none).0
