@@ -44,10 +44,10 @@ if-ok-and (Ok x) P a p = (a, p)
 if-ok-and (Err e) P a p = tt
 
 -- a run over the device of a script
-pub run-of : (script : Script) (d e : ScriptState) (end : Echo) (run : Run) → d ≡ new_device script.device → IsPlayed echo script_device (constants_in d.form) script.setup script.schedule (record {}) end (shown d) (shown e) run → IsRunOf script run
-run-of script d e end run same played =
-    let P : ScriptState → Type 0 = λ x. IsPlayed echo script_device (constants_in x.form) script.setup script.schedule (record {}) end (shown x) (shown e) run in
-    (end, e, subst P same played)
+pub run-of : (script : Script) (turns : List ℕ) (d e : ScriptState) (end : Echo) (run : Run) → d ≡ new_device script.device → turns ≡ script.schedule → IsPlayed echo script_device (constants_in d.form) script.setup turns (record {}) end (shown d) (shown e) run → IsRunOf script run
+run-of script turns d e end run same all played =
+    let P : ScriptState → List ℕ → Type 0 = λ x ts. IsPlayed echo script_device (constants_in x.form) script.setup ts (record {}) end (shown x) (shown e) run in
+    (end, e, subst (λ x. P x script.schedule) same (subst (λ ts. P d ts) all played))
 
 -- a script whose set-up `drive` refused fails a test
 pub why-none : (d e : ScriptState) (script-form : DeviceForm) (setup : Setup) (turns : List ℕ) (v end : Echo) (fault : DriveFault) → d ≡ new_device script-form → IsRefused echo script_device (constants_in d.form) setup turns v end (shown d) (shown e) fault → ((no_run_for fault ≡ why.SetUp) × IsSome (fault_of (constants_in script-form) setup)) ⊎ (no_run_for fault ≡ why.Memory)

@@ -10,5 +10,6 @@ returns-clause-err c =
     let P : NoRun → Type 0 = λ n. ((n ≡ why.SetUp) × IsSome (fault_in c.args.script)) ⊎ (n ≡ why.Memory) in
     subst P (sym c.no_run_for.ensures) (why-none c.new-device.result _ c.args.script.device c.args.script.setup _ _ _ c.in-Err.fault c.new-device.ensures c.in-Err.ensures.refused)
 
-pub returns-clause-ok : goal.returns-clause-ok
-returns-clause-ok c = run-of c.args.script c.new-device.result _ _ _ c.new-device.ensures c.in-Ok.ensures.played
+pub returns-in-Ok-clause-ok : goal.returns-in-Ok-clause-ok
+returns-in-Ok-clause-ok c =
+    run-of c.args.script c.as_slice.result.now c.new-device.result c.drive-driven.new.device c.drive-driven.new.service c.in-Ok.run' c.new-device.ensures c.as_slice.ensures c.in-Ok.ensures.played
