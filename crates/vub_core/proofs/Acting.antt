@@ -2,7 +2,7 @@
 use Rattle.std.proofs.Common.{◌≡◌, ℕ, ◌+◌, ◌-◌, ◌<◌, ◌==◌, List, [], ◌∷◌, length, drop, get_or, sym, ap, ◌∙◌}
 use Rattle.std.proofs.lemmas.Bool.{cond-false, ne_eqb}
 use Rattle.std.proofs.lemmas.List.{drop_more}
-use Rattle.vub_model.specs.declared.label.Label.TheVariants as label
+use Rattle.vub_model.specs.declared.play.Play.TheVariants as play
 use Rattle.vub_model.specs.declared.party.Party.TheVariants as party
 use Rattle.vub_model.specs.declared.setup.Guest.{Guest}
 use Rattle.vub_model.specs.Shared.{Shared}
@@ -10,7 +10,7 @@ use Rattle.vub_model.specs.Service.{Meaning}
 use Rattle.vub_model.specs.World.{World, acted, after_guest}
 use Rattle.vub_model.specs.RunOf.{Turn, party_of}
 
-pub guest-turned : {V : Type 0} (m : Meaning V) (w : World V) (guest : List Guest) (done : ℕ) (action : Guest) (new : Shared V) → w.guest ≡ drop done guest → done < length guest → action ≡ get_or guest done action → new ≡ acted w.shared action → Turn m w party.Guest label.Guest (record w { shared = new; guest = drop (done + 1) guest })
+pub guest-turned : {V : Type 0} (m : Meaning V) (w : World V) (guest : List Guest) (done : ℕ) (action : Guest) (new : Shared V) → w.guest ≡ drop done guest → done < length guest → action ≡ get_or guest done action → new ≡ acted w.shared action → Turn m w party.Guest play.Guest (record w { shared = new; guest = drop (done + 1) guest })
 guest-turned m w guest done action new left within here is =
     let next : w.guest ≡ action ∷ drop (done + 1) guest = left ∙ drop_more guest done action within ∙ ap (λ a. a ∷ drop (done + 1) guest) (sym here) in (
       (λ none. let bad : action ∷ drop (done + 1) guest ≡ [] = sym next ∙ none in absurd cc),

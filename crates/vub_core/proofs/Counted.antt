@@ -7,10 +7,10 @@ use Rattle.vub_model.specs.declared.records.Count.{Count}
 use Rattle.vub_model.specs.declared.records.Stop.{Stop}
 use Rattle.vub_model.specs.declared.setup.Object.{Object}
 use Rattle.vub_model.specs.RunRecords.{stop_of, stops_from, count_of_object, counts_from}
-use Rattle.vub_loop.specs.declared.handler.VringEpollHandler.{VringEpollHandler}
+use Rattle.vub_loop.specs.Worker.{Worker}
 use Rattle.vub_loop.specs.Handler.{phase_of}
 
-pub stops_next : (workers : List VringEpollHandler) (number : ℕ) (d : VringEpollHandler) (stops next goal : List Stop) (one : Option Stop) → number < length workers → stops ++ stops_from number (map (λ w. phase_of w) (drop number workers)) ≡ goal → option_to_list one ≡ stop_of number (phase_of (get_or workers number d)) → next ≡ stops ++ option_to_list one → next ++ stops_from (number + 1) (map (λ w. phase_of w) (drop (number + 1) workers)) ≡ goal
+pub stops_next : (workers : List Worker) (number : ℕ) (d : Worker) (stops next goal : List Stop) (one : Option Stop) → number < length workers → stops ++ stops_from number (map (λ w. phase_of w) (drop number workers)) ≡ goal → option_to_list one ≡ stop_of number (phase_of (get_or workers number d)) → next ≡ stops ++ option_to_list one → next ++ stops_from (number + 1) (map (λ w. phase_of w) (drop (number + 1) workers)) ≡ goal
 stops_next workers number d stops next goal one within so is push =
     ap (λ l. l ++ stops_from (number + 1) (map (λ w. phase_of w) (drop (number + 1) workers))) (push ∙ ap (λ l. stops ++ l) is)
     ∙ append_assoc stops (stop_of number (phase_of (get_or workers number d))) (stops_from (number + 1) (map (λ w. phase_of w) (drop (number + 1) workers)))

@@ -1,50 +1,82 @@
 -- A run with one turn more.
-use Rattle.std.proofs.Common.{◌≡◌, ℕ, ◌+◌, ◌<◌, ◌≤◌, List, [], ◌∷◌, ◌++◌, length, take, get_or, refl, sym, subst, arith}
-use Rattle.std.proofs.lemmas.List.{take_more, take_all}
+use Rattle.std.proofs.Common.{◌≡◌, ℕ, ◌+◌, ◌<◌, ◌≤◌, List, [], ◌∷◌, ◌++◌, length, map, take, get_or, refl, sym, ap, subst, ◌∙◌, arith, append-nil, append_assoc}
+use Rattle.std.proofs.lemmas.List.{take_more, take_all, map_push}
 use Rattle.vub_model.specs.declared.label.Label.{Label}
+use Rattle.vub_model.specs.declared.play.Play.{Play}
+use Rattle.vub_model.specs.DeviceCalls.{Call, Telling, label_of, call_at, calls}
 use Rattle.vub_model.specs.Service.{Meaning}
 use Rattle.vub_model.specs.World.{World}
 use Rattle.vub_model.specs.RunOf.{Turn, IsRun, IsLeast, PollsLeast, party_of, next}
 use Rattle.vub_model.proofs.Turns.{turn-next}
+use Rattle.vub_core.specs.DeviceRun.{DeviceState, HasMade}
 use Rattle.vub_core.specs.Played.{HasPlayed, WasCutShort}
+use Rattle.vub_core.proofs.Made.{made-append, made-same}
 
-run-more : {V : Type 0} (m : Meaning V) (turns : List ℕ) (labels : List Label) (w z end : World V) (turn : ℕ) (l : Label) → IsRun m turns labels w z → Turn m z (party_of turn) l end → IsRun m (turns ++ turn ∷ []) (labels ++ l ∷ []) w end
+run-more : {V : Type 0} (m : Meaning V) (turns : List ℕ) (plays : List Play) (w z end : World V) (turn : ℕ) (l : Play) → IsRun m turns plays w z → Turn m z (party_of turn) l end → IsRun m (turns ++ turn ∷ []) (plays ++ l ∷ []) w end
 run-more {V} m [] [] w z end turn l run t = (end, (let P : World V → Type 0 = λ x. Turn m x (party_of turn) l end in subst P run t), refl)
-run-more m [] (l' ∷ labels) w z end turn l run t = absurd run
+run-more m [] (l' ∷ plays) w z end turn l run t = absurd run
 run-more m (turn' ∷ turns) [] w z end turn l run t = absurd run
-run-more m (turn' ∷ turns) (l' ∷ labels) w z end turn l run t = (run.0, run.1, run-more m turns labels run.0 z end turn l run.2 t)
+run-more m (turn' ∷ turns) (l' ∷ plays) w z end turn l run t = (run.0, run.1, run-more m turns plays run.0 z end turn l run.2 t)
 
-least-more : {V : Type 0} (m : Meaning V) (turns : List ℕ) (labels : List Label) (w z : World V) (turn : ℕ) (l : Label) → IsRun m turns labels w z → PollsLeast m turns labels w → IsLeast z (party_of turn) l → PollsLeast m (turns ++ turn ∷ []) (labels ++ l ∷ []) w
+least-more : {V : Type 0} (m : Meaning V) (turns : List ℕ) (plays : List Play) (w z : World V) (turn : ℕ) (l : Play) → IsRun m turns plays w z → PollsLeast m turns plays w → IsLeast z (party_of turn) l → PollsLeast m (turns ++ turn ∷ []) (plays ++ l ∷ []) w
 least-more {V} m [] [] w z turn l run polls least = ((let P : World V → Type 0 = λ x. IsLeast x (party_of turn) l in subst P run least), tt)
-least-more m [] (l' ∷ labels) w z turn l run polls least = absurd run
+least-more m [] (l' ∷ plays) w z turn l run polls least = absurd run
 least-more m (turn' ∷ turns) [] w z turn l run polls least = absurd run
-least-more {V} m (turn' ∷ turns) (l' ∷ labels) w z turn l run polls least =
+least-more {V} m (turn' ∷ turns) (l' ∷ plays) w z turn l run polls least =
     let is = turn-next m w (party_of turn') l' run.0 run.1 in
-    let R : World V → Type 0 = λ x. IsRun m turns labels x z in
-    (polls.0, least-more m turns labels (next m w (party_of turn') l') z turn l (subst R is run.2) polls.1 least)
+    let R : World V → Type 0 = λ x. IsRun m turns plays x z in
+    (polls.0, least-more m turns plays (next m w (party_of turn') l') z turn l (subst R is run.2) polls.1 least)
 
-pub played-none : {V : Type 0} (m : Meaning V) (w : World V) (labels : List Label) → labels ≡ [] → HasPlayed m [] labels w w
-played-none {V} m w labels is = let P : List Label → Type 0 = λ ls. HasPlayed m [] ls w w in subst P (sym is) (record { is_run = refl; least = tt })
+calls-more : {V : Type 0} (m : Meaning V) (turns : List ℕ) (plays : List Play) (w z : World V) (turn : ℕ) (l : Play) → IsRun m turns plays w z → calls m (turns ++ turn ∷ []) (plays ++ l ∷ []) w ≡ calls m turns plays w ++ call_at z (party_of turn) l
+calls-more m [] [] w z turn l run = append-nil (call_at w (party_of turn) l) ∙ ap (λ x. call_at x (party_of turn) l) (sym run)
+calls-more m [] (l' ∷ plays) w z turn l run = absurd run
+calls-more m (turn' ∷ turns) [] w z turn l run = absurd run
+calls-more {V} m (turn' ∷ turns) (l' ∷ plays) w z turn l run =
+    let is = turn-next m w (party_of turn') l' run.0 run.1 in
+    let R : World V → Type 0 = λ x. IsRun m turns plays x z in
+    let first = call_at w (party_of turn') l' in
+    ap (λ cs. first ++ cs) (calls-more m turns plays (next m w (party_of turn') l') z turn l (subst R is run.2))
+    ∙ sym (append_assoc first (calls m turns plays (next m w (party_of turn') l')) (call_at z (party_of turn) l))
 
-pub played-more : {V : Type 0} (m : Meaning V) (schedule : List ℕ) (labels next-labels : List Label) (w z end : World V) (index d : ℕ) (l : Label) → index < length schedule → HasPlayed m (take index schedule) labels w z → Turn m z (party_of (get_or schedule index d)) l end → IsLeast z (party_of (get_or schedule index d)) l → next-labels ≡ labels ++ l ∷ [] → HasPlayed m (take (index + 1) schedule) next-labels w end
-played-more {V} m schedule labels next-labels w z end index d l within so turn least push =
-    let more : take (index + 1) schedule ≡ take index schedule ++ get_or schedule index d ∷ [] = take_more schedule index d within in
-    let P : List ℕ → List Label → Type 0 = λ ts ls. HasPlayed m ts ls w end in
-    subst (λ ts. P ts next-labels) (sym more) (subst (λ ls. P (take index schedule ++ get_or schedule index d ∷ []) ls) (sym push) (record {
-      is_run = run-more m (take index schedule) labels w z end (get_or schedule index d) l so.is_run turn;
-      least = least-more m (take index schedule) labels w z (get_or schedule index d) l so.is_run so.least least;
-    }))
+module _ {V D : Type 0} (m : Meaning V) (t : Telling D) (schedule : List ℕ) where
+  pub played-none : (w : World V) (labels : List Label) (d : DeviceState D) → labels ≡ [] → HasPlayed m t [] labels w w d d
+  played-none w labels d is = record { plays = []; labels_are = is; is_run = refl; least = tt; made = made-same t d d refl }
 
-pub played-all : {V : Type 0} (m : Meaning V) (schedule : List ℕ) (labels : List Label) (w z : World V) (index : ℕ) → length schedule ≤ index → HasPlayed m (take index schedule) labels w z → HasPlayed m schedule labels w z
-played-all {V} m schedule labels w z index past so = let P : List ℕ → Type 0 = λ ts. HasPlayed m ts labels w z in subst P (take_all index schedule past) so
+  pub played-more : (labels next-labels : List Label) (w z end : World V) (d e f : DeviceState D) (index none : ℕ) (l : Play) → index < length schedule → HasPlayed m t (take index schedule) labels w z d e → Turn m z (party_of (get_or schedule index none)) l end → IsLeast z (party_of (get_or schedule index none)) l → HasMade t e f (call_at z (party_of (get_or schedule index none)) l) → next-labels ≡ labels ++ label_of l ∷ [] → HasPlayed m t (take (index + 1) schedule) next-labels w end d f
+  played-more labels next-labels w z end d e f index none l within so turn least made push =
+      let party = get_or schedule index none in
+      let front = take index schedule in
+      let more : take (index + 1) schedule ≡ front ++ party ∷ [] = take_more schedule index none within in
+      let P : List ℕ → Type 0 = λ ts. HasPlayed m t ts next-labels w end d f in
+      let C : List Call → Type 0 = λ cs. HasMade t d f cs in
+      subst P (sym more) (record {
+        plays = so.plays ++ l ∷ [];
+        labels_are = push ∙ ap (λ ls. ls ++ label_of l ∷ []) so.labels_are ∙ sym (map_push (λ p. label_of p) so.plays l);
+        is_run = run-more m front so.plays w z end party l so.is_run turn;
+        least = least-more m front so.plays w z party l so.is_run so.least least;
+        made = subst C (sym (calls-more m front so.plays w z party l so.is_run)) (made-append t (calls m front so.plays w) (call_at z (party_of party) l) d e f so.made made);
+      })
 
-pub cut-short : {V : Type 0} (m : Meaning V) (schedule : List ℕ) (labels now : List Label) (w z : World V) (index : ℕ) (end : V) → index ≤ length schedule → length labels ≡ index → HasPlayed m (take index schedule) labels w z → now ≡ labels → end ≡ z.shared.service → WasCutShort m schedule now w end
-cut-short {V} m schedule labels now w z index end within count so same value =
-    let P : List Label → Type 0 = λ ls. WasCutShort m schedule ls w end in
-    subst P (sym same) (record {
-      closing = z;
-      within = omega (arith, count);
-      is_run = (let R : ℕ → Type 0 = λ n. IsRun m (take n schedule) labels w z in subst R (sym count) so.is_run);
-      least = (let L : ℕ → Type 0 = λ n. PollsLeast m (take n schedule) labels w in subst L (sym count) so.least);
-      value = value;
-    })
+  pub played-all : (labels : List Label) (w z : World V) (d e : DeviceState D) (index : ℕ) → length schedule ≤ index → HasPlayed m t (take index schedule) labels w z d e → HasPlayed m t schedule labels w z d e
+  played-all labels w z d e index past so = let P : List ℕ → Type 0 = λ ts. HasPlayed m t ts labels w z d e in subst P (take_all index schedule past) so
+
+  -- want of memory at a turn, which has made no call of the device
+  pub cut-short : (labels now : List Label) (w z : World V) (d e f : DeviceState D) (index : ℕ) (end : V) → index ≤ length schedule → length labels ≡ index → HasPlayed m t (take index schedule) labels w z d e → now ≡ labels → end ≡ z.shared.service → HasMade t e f [] → WasCutShort m t schedule now w end d f
+  cut-short labels now w z d e f index end within count so same value made =
+      let P : List Label → Type 0 = λ ls. WasCutShort m t schedule ls w end d f in
+      let front = take index schedule in
+      let C : List Call → Type 0 = λ cs. HasMade t d f cs in
+      let played : HasPlayed m t front labels w z d f = record {
+        plays = so.plays;
+        labels_are = so.labels_are;
+        is_run = so.is_run;
+        least = so.least;
+        made = subst C (append-nil (calls m front so.plays w)) (made-append t (calls m front so.plays w) [] d e f so.made made);
+      } in
+      let N : ℕ → Type 0 = λ n. HasPlayed m t (take n schedule) labels w z d f in
+      subst P (sym same) (record {
+        closing = z;
+        within = omega (arith, count);
+        front = subst N (sym count) played;
+        value = value;
+      })

@@ -1,17 +1,21 @@
 -- A valid set-up and a schedule have one outcome: two runs that are handed back are the same in each field.
-use Rattle.std.proofs.Common.{◌≡◌, ◌↔◌, ℕ, Bool, true, false, IsTrue, List, refl, sym, ap, subst, ◌∙◌}
+use Rattle.std.proofs.Common.{◌≡◌, ◌↔◌, ℕ, Bool, true, false, IsTrue, List, map, Some, refl, sym, ap, subst, ◌∙◌}
 use Rattle.vub_model.specs.declared.constants.Constants.{Constants}
 use Rattle.vub_model.specs.declared.label.Label.{Label}
 use Rattle.vub_model.specs.declared.run.Run.{Run}
 use Rattle.vub_model.specs.declared.setup.Object.{Object}
 use Rattle.vub_model.specs.declared.setup.Setup.{Setup}
+use Rattle.vub_model.specs.declared.play.Play.{Play}
+use Rattle.vub_model.specs.DeviceCalls.{Telling, label_of, calls}
 use Rattle.vub_model.specs.Opening.{opening}
 use Rattle.vub_model.specs.RunOf.{IsAtRest}
 use Rattle.vub_model.specs.RunRecords.{Shows}
 use Rattle.vub_model.specs.Service.{Meaning}
 use Rattle.vub_model.specs.World.{World}
 use Rattle.vub_model.proofs.OneRun.{one-run}
+use Rattle.vub_core.specs.DeviceRun.{DeviceState}
 use Rattle.vub_core.specs.Outcome.{IsPlayed}
+use Rattle.vub_core.proofs.Made.{tells-from}
 
 -- two answers are the same that are true exactly where the same holds
 one-answer : (P : Type 0) (answer other : Bool) → IsTrue answer ↔ P → IsTrue other ↔ P → answer ≡ other
@@ -43,10 +47,13 @@ one-shown objects labels closing run other shows other-shows =
     (shows.written_is ∙ sym other-shows.written_is)
     (one-answer (IsAtRest closing) run.rest other.rest shows.rests other-shows.rests)
 
--- a schedule has one run
-pub one-outcome : {V : Type 0} (m : Meaning V) (k : Constants) (setup : Setup) (schedule : List ℕ) (v end other-end : V) (run other : Run) → IsPlayed m k setup schedule v end run → IsPlayed m k setup schedule v other-end other → run ≡ other
-one-outcome {V} m k setup schedule v end other-end run other played other-played =
-    let same = one-run m schedule run.labels other.labels (opening k setup v) played.closing other-played.closing played.is_run played.least other-played.is_run other-played.least in
-    let L : List Label → Type 0 = λ ls. Shows setup.objects ls other-played.closing other in
-    let C : World V → Type 0 = λ w. Shows setup.objects run.labels w other in
-    one-shown setup.objects run.labels played.closing run other played.shows (subst C (sym same.1) (subst L (sym same.0) other-played.shows))
+-- a schedule has one run over a device that tells its value
+pub one-outcome : {V D : Type 0} (m : Meaning V) (t : Telling D) (d : D) (k : Constants) (setup : Setup) (schedule : List ℕ) (v end other-end : V) (before now other-now : DeviceState D) (run other : Run) → before.value ≡ Some d → IsPlayed m t k setup schedule v end before now run → IsPlayed m t k setup schedule v other-end before other-now other → run ≡ other
+one-outcome {V} m t d k setup schedule v end other-end before now other-now run other told played other-played =
+    let w = opening k setup v in
+    let said = tells-from t before.value now.value d (calls m schedule played.plays w) told played.made.told in
+    let other-said = tells-from t before.value other-now.value d (calls m schedule other-played.plays w) told other-played.made.told in
+    let same = one-run t d m schedule played.plays other-played.plays w played.closing other-played.closing played.is_run played.least said other-played.is_run other-played.least other-said in
+    let L : List Play → Type 0 = λ ps. Shows setup.objects (map label_of ps) other-played.closing other in
+    let C : World V → Type 0 = λ w. Shows setup.objects (map label_of played.plays) w other in
+    one-shown setup.objects (map label_of played.plays) played.closing run other played.shows (subst C (sym same.1) (subst L (sym same.0) other-played.shows))

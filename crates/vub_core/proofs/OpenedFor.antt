@@ -1,65 +1,34 @@
--- An opening is the same for every service.
-use Rattle.std.proofs.Common.{◌≡◌, ℕ, ◌&&◌, Bool, true, false, List, [], ◌∷◌, fold, length, map, drop, Option, Some, None, refl, ap, ◌∙◌, cond}
+-- The opening of a machine is the same for every service.
+use Rattle.std.proofs.Common.{◌≡◌, List, [], map, drop, ap, ◌∙◌}
 use Rattle.vub_model.specs.declared.constants.Constants.{Constants}
-use Rattle.vub_model.specs.declared.setup.GivenRing.{GivenRing}
 use Rattle.vub_model.specs.declared.setup.Setup.{Setup}
 use Rattle.vub_model.specs.declared.phase.Phase.TheVariants.{Idle}
-use Rattle.vub_model.specs.declared.wiring.Place.{Place}
 use Rattle.vub_model.specs.Shared.{Shared}
-use Rattle.vub_model.specs.Opening.{opening, before_rings, placed, claimed, registered, registered_kick, wiring_of, unwritten}
-use Rattle.vub_model.specs.Wiring.{Wiring, place_of}
+use Rattle.vub_model.specs.Opening.{opening, unwritten}
 use Rattle.vub_model.specs.World.{World}
 use Rattle.vub_loop.specs.Handler.{phase_of}
 use Rattle.vub_core.specs.declared.machine.Machine.{Machine}
-use Rattle.vub_core.specs.Machine.{world_of}
-use Rattle.vub_vring.specs.declared.store.Store.{Store}
+use Rattle.vub_core.specs.Machine.{world_opened, opened_world}
 use Rattle.vub_vring.specs.Store.{shared_of}
-use Rattle.vub_core.specs.Opened.{unserved}
+use Rattle.vub_open.specs.Opened.{unserved}
+use Rattle.vub_open.proofs.OpenedFor.{opened_for}
 
--- what is held, with this service in place of the other
-abbrev with_service : {U V : Type 0} → V → Shared U → Shared V
-with_service v h = record { guest = h.guest; rings = h.rings; table = h.table; pending = h.pending; service = v }
-
-module _ {U V : Type 0} (v : V) (g : Wiring) where
-  placed_with : (h : Shared U) (kick : ℕ) (found : Option Place) → with_service v (placed g h kick found) ≡ placed g (with_service v h) kick found
-  placed_with h kick None = refl
-  placed_with h kick (Some p) = refl
-
-  chosen_with : (b : Bool) (h : Shared U) (r : GivenRing) (kick : ℕ) → with_service v (cond {A = Shared U} b (placed g (claimed h kick r.queue) kick (place_of g r.queue)) (claimed h kick r.queue)) ≡ cond {A = Shared V} b (placed g (claimed (with_service v h) kick r.queue) kick (place_of g r.queue)) (claimed (with_service v h) kick r.queue)
-  chosen_with true h r kick = placed_with (claimed h kick r.queue) kick (place_of g r.queue)
-  chosen_with false h r kick = refl
-
-  registered_with : (h : Shared U) (r : GivenRing) (kick : Option ℕ) → with_service v (registered_kick g h r kick) ≡ registered_kick g (with_service v h) r kick
-  registered_with h r None = refl
-  registered_with h r (Some kick) = chosen_with (r.ready && r.enabled) h r kick
-
-  all_with : (rs : List GivenRing) (h : Shared U) → with_service v (fold (λ h r. registered g h r) h rs) ≡ fold (λ h r. registered g h r) (with_service v h) rs
-  all_with [] h = refl
-  all_with (r ∷ rs) h = all_with rs (registered g h r) ∙ ap (λ h. fold (λ h r. registered g h r) h rs) (registered_with h r r.kick)
-
--- a store that opens a set-up opens it for every service
-pub opened_for : {V : Type 0} (k : Constants) (s : Setup) (v : V) (store : Store (Unit {0})) → unserved store ≡ (opening k s (tt {0})).shared → shared_of store v ≡ (opening k s v).shared
-unfolding opening
-opened_for k s v store opens =
-    ap (λ h. with_service v h) opens
-    ∙ all_with v (wiring_of k (length s.objects)) s.rings (before_rings k s (tt {0}))
-
--- a world with another held value
-abbrev with_held : {U V : Type 0} → World U → Shared V → World V
-with_held w h = record { shared = h; wiring = w.wiring; phases = w.phases; guest = w.guest; takes = w.takes; uses = w.uses; written = w.written }
+-- a world with other shared parts
+abbrev with_shared : {U V : Type 0} → World U → Shared V → World V
+with_shared w h = record { shared = h; wiring = w.wiring; phases = w.phases; guest = w.guest; control = w.control; takes = w.takes; uses = w.uses; written = w.written }
 
 -- a machine that opens a set-up opens it for every service
-pub world_for : {V : Type 0} (k : Constants) (s : Setup) (v : V) (m : Machine) → world_of (wiring_of k (length s.objects)) s.guest m (tt {0}) ≡ opening k s (tt {0}) → world_of (wiring_of k (length s.objects)) s.guest m v ≡ opening k s v
+pub world_for : {V : Type 0} (k : Constants) (s : Setup) (v : V) (m : Machine) → opened_world k s m ≡ opening k s (tt {0}) → world_opened k s m v ≡ opening k s v
 unfolding opening
 world_for k s v m opens =
-    ap (λ w. with_held w (shared_of m.store v)) opens
-    ∙ ap (λ h. with_held (opening k s (tt {0})) h) (opened_for k s v m.store (ap (λ w. w.shared) opens))
+    ap (λ w. with_shared w (shared_of m.store v)) opens
+    ∙ ap (λ h. with_shared (opening k s (tt {0})) h) (opened_for k s v m.store (ap (λ w. w.shared) opens))
 
 -- what opens a set-up
-pub machine_opens : (k : Constants) (s : Setup) (m : Machine) → unserved m.store ≡ (opening k s (tt {0})).shared → map (λ h. phase_of h) m.workers.items ≡ map (λ mask. Idle) k.masks → m.acted ≡ 0 → m.records.takes.items ≡ [] → m.records.uses.items ≡ [] → m.records.written ≡ map unwritten s.objects → world_of (wiring_of k (length s.objects)) s.guest m (tt {0}) ≡ opening k s (tt {0})
+pub machine_opens : (k : Constants) (s : Setup) (m : Machine) → unserved m.store ≡ (opening k s (tt {0})).shared → map (λ h. phase_of h) m.workers.items ≡ map (λ mask. Idle) k.masks → m.acted ≡ 0 → m.records.takes.items ≡ [] → m.records.uses.items ≡ [] → m.records.written ≡ map unwritten s.objects → opened_world k s m ≡ opening k s (tt {0})
 unfolding opening
 machine_opens k s m shared phases acted takes uses written =
-    let w : World (Unit {0}) = world_of (wiring_of k (length s.objects)) s.guest m (tt {0}) in
+    let w : World (Unit {0}) = opened_world k s m in
     ap (λ x. record w { shared = x }) shared
     ∙ ap (λ x. record w { shared = (opening k s (tt {0})).shared; phases = x }) phases
     ∙ ap (λ x. record w { shared = (opening k s (tt {0})).shared; phases = map (λ mask. Idle) k.masks; guest = drop x s.guest }) acted

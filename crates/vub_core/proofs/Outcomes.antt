@@ -1,9 +1,10 @@
 -- What a schedule came to, from what playing it came to.
-use Rattle.std.proofs.Common.{◌≡◌, ℕ, ◌<◌, ◌&&◌, Option, Some, None, fold, List, [], ◌∷◌, length, take, refl, sym, subst, ◌∙◌, arith}
+use Rattle.std.proofs.Common.{◌≡◌, ℕ, ◌<◌, ◌&&◌, Option, Some, None, fold, List, [], ◌∷◌, length, map, take, refl, sym, ap, subst, ◌∙◌, arith}
 use Rattle.std.proofs.lemmas.Bool.{cond_both}
-use Rattle.std.proofs.lemmas.List.{take_all}
+use Rattle.std.proofs.lemmas.List.{take_all, length-map}
 use Rattle.vub_model.specs.declared.constants.Constants.{Constants}
 use Rattle.vub_model.specs.declared.label.Label.{Label}
+use Rattle.vub_model.specs.declared.play.Play.{Play}
 use Rattle.vub_model.specs.declared.run.DriveFault.{DriveFault}
 use Rattle.vub_model.specs.declared.run.DriveFault.TheVariants as drive_fault
 use Rattle.vub_model.specs.declared.run.Run.{Run}
@@ -14,19 +15,18 @@ use Rattle.vub_model.specs.declared.wiring.Place.{Place}
 use Rattle.vub_model.specs.Shared.{Shared}
 use Rattle.vub_model.specs.Wiring.{Wiring, place_of}
 use Rattle.vub_model.specs.Opening.{opening, before_rings, wiring_of, registered, registered_kick, placed, claimed}
+use Rattle.vub_model.specs.DeviceCalls.{Telling, label_of, calls}
 use Rattle.vub_model.specs.RunOf.{IsRun, PollsLeast}
 use Rattle.vub_model.specs.RunRecords.{Shows}
 use Rattle.vub_model.specs.Service.{Meaning}
 use Rattle.vub_model.specs.ValidSetup.{IsValid, fault_of}
 use Rattle.vub_model.specs.World.{World}
-use Rattle.vub_model.proofs.FlowRuns.{headline}
-use Rattle.vub_model.proofs.Live.{takes-are-live}
-use Rattle.vub_model.proofs.Confined.{run-is-confined}
-use Rattle.vub_model.proofs.NoneLost.{none-lost}
-use Rattle.vub_model.proofs.Openings.{opening-is-fresh}
+use Rattle.vub_model.proofs.Headline.{headline-of-setup}
+use Rattle.vub_core.specs.DeviceRun.{DeviceState, HasMade}
 use Rattle.vub_core.specs.Outcome.{IsPlayed, IsCutShort, IsRefused}
 use Rattle.vub_core.specs.Played.{HasPlayed, WasCutShort}
-use Rattle.vub_core.specs.Refused.{IsRefusal}
+use Rattle.vub_core.proofs.Made.{made-same}
+use Rattle.vub_open.specs.Refused.{IsRefusal}
 
 -- the opening has the service that it is given
 
@@ -47,76 +47,80 @@ pub opening-service : {V : Type 0} (k : Constants) (setup : Setup) (v : V) → (
 unfolding opening
 opening-service k setup v = rings-service (wiring_of k (length setup.objects)) setup.rings (before_rings k setup v)
 
-module _ {V : Type 0} (m : Meaning V) (k : Constants) (setup : Setup) (v : V) where
+run-length : {V : Type 0} (m : Meaning V) (turns : List ℕ) (plays : List Play) (w z : World V) → IsRun m turns plays w z → length plays ≡ length turns
+run-length m [] [] w z run = refl
+run-length m [] (l ∷ plays) w z run = absurd run
+run-length m (turn ∷ turns) [] w z run = absurd run
+run-length m (turn ∷ turns) (l ∷ plays) w z run = (let rest = run-length m turns plays run.0 z run.2 in omega arith)
+
+module _ {V D : Type 0} (m : Meaning V) (t : Telling D) (k : Constants) (setup : Setup) (v : V) (schedule : List ℕ) (d e : DeviceState D) where
   -- the headline
-  pub all-played : (schedule : List ℕ) (labels : List Label) (closing : World V) (end : V) (run : Run) → IsValid k setup → length schedule < limit → HasPlayed m schedule labels (opening k setup v) closing → end ≡ closing.shared.service → Shows setup.objects labels closing run → IsPlayed m k setup schedule v end run
-  all-played schedule labels closing end run valid short so value shows =
-      let H : List Label → Type 0 = λ ls. HasPlayed m schedule ls (opening k setup v) closing in
+  pub all-played : (labels : List Label) (closing : World V) (end : V) (run : Run) → IsValid k setup → length schedule < limit → HasPlayed m t schedule labels (opening k setup v) closing d e → end ≡ closing.shared.service → Shows setup.objects labels closing run → IsPlayed m t k setup schedule v end d e run
+  all-played labels closing end run valid short so value shows =
       let S : List Label → Type 0 = λ ls. Shows setup.objects ls closing run in
-      let now : HasPlayed m schedule run.labels (opening k setup v) closing = subst H (sym shows.labels_are) so in
       record {
         valid = valid;
+        plays = so.plays;
         closing = closing;
-        is_run = now.is_run;
-        least = now.least;
-        shows = subst S (sym shows.labels_are) shows;
+        is_run = so.is_run;
+        least = so.least;
+        shows = subst S so.labels_are shows;
         value = value;
-        served = headline m schedule run.labels (opening k setup v) closing (opening-is-fresh k setup v) now.is_run;
-        live = takes-are-live m schedule run.labels (opening k setup v) closing now.is_run;
-        confined = run-is-confined m schedule run.labels (opening k setup v);
-        none_lost = λ rest. none-lost m k setup v schedule run.labels closing short valid now.is_run rest;
+        made = so.made;
+        faithful = headline-of-setup m k setup v schedule so.plays closing short valid so.is_run;
       }
 
   -- want of memory before the first turn
-  pub none-played : (schedule : List ℕ) (end : V) → end ≡ v → (opening k setup v).shared.service ≡ v → IsCutShort m k setup schedule v end 0
-  none-played schedule end same opened = record {
+  pub none-played : (end : V) → end ≡ v → (opening k setup v).shared.service ≡ v → e ≡ d → IsCutShort m t k setup schedule v end d e 0
+  none-played end same opened device = record {
     valid = λ some. absurd (omega (arith, some));
-    labels = [];
+    plays = [];
     closing = opening k setup v;
     within = omega arith;
     is_run = refl;
     least = tt;
     value = same ∙ sym opened;
+    made = made-same t d e device;
   }
 
   -- want of memory at a turn
-  pub some-played : (schedule : List ℕ) (labels : List Label) (end : V) (done : ℕ) → IsValid k setup → done ≡ length labels → WasCutShort m schedule labels (opening k setup v) end → IsCutShort m k setup schedule v end done
-  some-played schedule labels end done valid is so =
-      let P : ℕ → Type 0 = λ n. IsCutShort m k setup schedule v end n in
+  pub some-played : (labels : List Label) (end : V) (done : ℕ) → IsValid k setup → done ≡ length labels → WasCutShort m t schedule labels (opening k setup v) end d e → IsCutShort m t k setup schedule v end d e done
+  some-played labels end done valid is so =
+      let P : ℕ → Type 0 = λ n. IsCutShort m t k setup schedule v end d e n in
       subst P (sym is) (record {
         valid = λ some. valid;
-        labels = labels;
+        plays = so.front.plays;
         closing = so.closing;
         within = so.within;
-        is_run = so.is_run;
-        least = so.least;
+        is_run = so.front.is_run;
+        least = so.front.least;
         value = so.value;
+        made = so.front.made;
       })
 
-run-length : {V : Type 0} (m : Meaning V) (turns : List ℕ) (labels : List Label) (w z : World V) → IsRun m turns labels w z → length labels ≡ length turns
-run-length m [] [] w z run = refl
-run-length m [] (l ∷ labels) w z run = absurd run
-run-length m (turn ∷ turns) [] w z run = absurd run
-run-length m (turn ∷ turns) (l ∷ labels) w z run = (let rest = run-length m turns labels run.0 z run.2 in omega arith)
+  -- want of memory behind the last turn
+  pub end-played : (labels : List Label) (closing : World V) (end : V) (done : ℕ) → IsValid k setup → done ≡ length labels → HasPlayed m t schedule labels (opening k setup v) closing d e → end ≡ closing.shared.service → IsCutShort m t k setup schedule v end d e done
+  end-played labels closing end done valid is so value =
+      let long = run-length m schedule so.plays (opening k setup v) closing so.is_run in
+      let count : length labels ≡ length so.plays = ap (λ ls. length ls) so.labels_are ∙ length-map so.plays (λ p. label_of p) in
+      let whole : take done schedule ≡ schedule = take_all done schedule (omega arith) in
+      let R : List ℕ → Type 0 = λ ts. IsRun m ts so.plays (opening k setup v) closing in
+      let L : List ℕ → Type 0 = λ ts. PollsLeast m ts so.plays (opening k setup v) in
+      let C : List ℕ → Type 0 = λ ts. HasMade t d e (calls m ts so.plays (opening k setup v)) in
+      record {
+        valid = λ some. valid;
+        plays = so.plays;
+        closing = closing;
+        within = omega arith;
+        is_run = subst R (sym whole) so.is_run;
+        least = subst L (sym whole) so.least;
+        value = value;
+        made = subst C (sym whole) so.made;
+      }
 
--- want of memory behind the last turn
-pub end-played : {V : Type 0} (m : Meaning V) (k : Constants) (setup : Setup) (v : V) (schedule : List ℕ) (labels : List Label) (closing : World V) (end : V) (done : ℕ) → IsValid k setup → done ≡ length labels → HasPlayed m schedule labels (opening k setup v) closing → end ≡ closing.shared.service → IsCutShort m k setup schedule v end done
-end-played {V} m k setup v schedule labels closing end done valid is so value =
-    let long = run-length m schedule labels (opening k setup v) closing so.is_run in
-    let whole : take done schedule ≡ schedule = take_all done schedule (omega arith) in
-    record {
-      valid = λ some. valid;
-      labels = labels;
-      closing = closing;
-      within = omega arith;
-      is_run = (let R : List ℕ → Type 0 = λ ts. IsRun m ts labels (opening k setup v) closing in subst R (sym whole) so.is_run);
-      least = (let L : List ℕ → Type 0 = λ ts. PollsLeast m ts labels (opening k setup v) in subst L (sym whole) so.least);
-      value = value;
-    }
-
--- a refusal at the opening
-pub opening-refused : {V : Type 0} (m : Meaning V) (k : Constants) (setup : Setup) (v end : V) (schedule : List ℕ) (fault : DriveFault) → end ≡ v → (opening k setup v).shared.service ≡ v → IsRefusal (fault_of k setup) fault → IsRefused m k setup schedule v end fault
-opening-refused m k setup v end schedule (drive_fault.Setup f) same opened is = (is, same)
-opening-refused {V} m k setup v end schedule (drive_fault.OutOfMemory done) same opened is =
-    let P : ℕ → Type 0 = λ n. IsCutShort m k setup schedule v end n in
-    subst P (sym is) (none-played m k setup v schedule end same opened)
+  -- a refusal at the opening
+  pub opening-refused : (end : V) (fault : DriveFault) → end ≡ v → (opening k setup v).shared.service ≡ v → e ≡ d → IsRefusal (fault_of k setup) fault → IsRefused m t k setup schedule v end d e fault
+  opening-refused end (drive_fault.Setup f) same opened device is = (is, same, device)
+  opening-refused end (drive_fault.OutOfMemory done) same opened device is =
+      let P : ℕ → Type 0 = λ n. IsCutShort m t k setup schedule v end d e n in
+      subst P (sym is) (none-played end same opened device)

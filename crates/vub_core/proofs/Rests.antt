@@ -6,18 +6,21 @@ use Rattle.std.proofs.lemmas.List.{get_or-map, get_or_past, length-map, drop_all
 use Rattle.vub_event.specs.declared.ready.Ready.{Ready}
 use Rattle.vub_event.specs.HostTable.{ready_members}
 use Rattle.vub_model.specs.declared.cause.StopCause.TheVariants.{Exit}
-use Rattle.vub_model.specs.declared.label.Label.{Label}
-use Rattle.vub_model.specs.declared.label.Label.TheVariants as label
+use Rattle.vub_model.specs.declared.play.Play.{Play}
+use Rattle.vub_model.specs.declared.play.Play.TheVariants as play
 use Rattle.vub_model.specs.declared.party.Party.TheVariants as party
 use Rattle.vub_model.specs.declared.phase.Phase.{Phase}
 use Rattle.vub_model.specs.declared.phase.Phase.TheVariants.{Idle, Polled, Sweep, Heard, Serving, Taken, Served, Stopped}
 use Rattle.vub_model.specs.declared.setup.Guest.{Guest}
+use Rattle.vub_model.specs.declared.small.Small.{Small}
+use Rattle.vub_proto.specs.declared.device_said.DeviceSaid.TheVariants as outcome
+use Rattle.vub_model.specs.Control.{MayControl}
 use Rattle.vub_model.specs.Shared.{Shared}
 use Rattle.vub_model.specs.Wiring.{Wiring, opened_at}
 use Rattle.vub_model.specs.Work.{MayWork}
-use Rattle.vub_model.specs.World.{World, phase_at}
+use Rattle.vub_model.specs.World.{World, May, phase_at}
 use Rattle.vub_model.specs.RunOf.{IsAtRest}
-use Rattle.vub_loop.specs.declared.handler.VringEpollHandler.{VringEpollHandler}
+use Rattle.vub_loop.specs.Worker.{Worker}
 use Rattle.vub_loop.specs.Handler.{IsHandler, phase_of}
 use Rattle.vub_core.specs.Rest.{is_some_list, has_report, rests_in}
 use Rattle.vub_core.specs.Workers.{AreHandlers}
@@ -38,35 +41,35 @@ not_false true is = refl
 not_false false is = (let bad : true ≡ false = is in absurd cc)
 
 module _ {V : Type 0} (g : Wiring) (k : ℕ) (h : Shared V) where
-  idle-rests : has_report h.table (opened_at g k).list ≡ false → (l : Label) → MayWork g k h Idle l → ⊥
-  idle-rests none (label.Poll object) may = none-ready (ready_members h.table (opened_at g k).list) object none may
-  idle-rests none label.Pass may = may
-  idle-rests none label.Guest may = may
-  idle-rests none label.Event may = may
-  idle-rests none label.Sweep may = may
-  idle-rests none label.Take may = may
-  idle-rests none label.Serve may = may
-  idle-rests none label.Put may = may
+  idle-rests : has_report h.table (opened_at g k).list ≡ false → (l : Play) → MayWork g k h Idle l → ⊥
+  idle-rests none (play.Poll object) may = none-ready (ready_members h.table (opened_at g k).list) object none may
+  idle-rests none l may = may
 
-  pub worker-rests : (phase : Phase) → rests_in h.table (opened_at g k).list phase ≡ true → (l : Label) → MayWork g k h phase l → ⊥
+  pub worker-rests : (phase : Phase) → rests_in h.table (opened_at g k).list phase ≡ true → (l : Play) → MayWork g k h phase l → ⊥
   worker-rests Idle rests l may = idle-rests (not-true (has_report h.table (opened_at g k).list) rests) l may
   worker-rests (Polled object token) rests l may = (let bad : false ≡ true = rests in absurd cc)
   worker-rests Sweep rests l may = (let bad : false ≡ true = rests in absurd cc)
-  worker-rests (Heard token) rests l may = may
+  worker-rests (Heard token) rests l may = (let bad : false ≡ true = rests in absurd cc)
   worker-rests (Serving queues) rests l may = (let bad : false ≡ true = rests in absurd cc)
   worker-rests (Taken e queues) rests l may = (let bad : false ≡ true = rests in absurd cc)
   worker-rests (Served e reply queues) rests l may = (let bad : false ≡ true = rests in absurd cc)
   worker-rests (Stopped cause) rests l may = may
 
-  pub worker-works : (phase : Phase) → rests_in h.table (opened_at g k).list phase ≡ false → (l : Label) × MayWork g k h phase l
-  worker-works Idle works = (let some = some-ready (ready_members h.table (opened_at g k).list) (not_false (has_report h.table (opened_at g k).list) works) in (label.Poll some.0, some.1))
-  worker-works (Polled object token) works = (label.Event, tt)
-  worker-works Sweep works = (label.Sweep, tt)
-  worker-works (Heard token) works = (let bad : true ≡ false = works in absurd cc)
-  worker-works (Serving queues) works = (label.Take, tt)
-  worker-works (Taken e queues) works = (label.Serve, tt)
-  worker-works (Served e reply queues) works = (label.Put, tt)
+  pub worker-works : (phase : Phase) → rests_in h.table (opened_at g k).list phase ≡ false → (l : Play) × MayWork g k h phase l
+  worker-works Idle works = (let some = some-ready (ready_members h.table (opened_at g k).list) (not_false (has_report h.table (opened_at g k).list) works) in (play.Poll some.0, some.1))
+  worker-works (Polled object token) works = (play.Event, tt)
+  worker-works Sweep works = (play.Sweep, tt)
+  worker-works (Heard token) works = (play.Hear outcome.Done, tt)
+  worker-works (Serving queues) works = (play.Take, tt)
+  worker-works (Taken e queues) works = (play.Serve, tt)
+  worker-works (Served e reply queues) works = (play.Put, tt)
   worker-works (Stopped cause) works = (let bad : true ≡ false = works in absurd cc)
+
+-- control with no step left
+
+no-control : {V : Type 0} (w : World V) → w.control.plan.steps ≡ [] → (l : Play) → May w party.Control l → ⊥
+no-control w none (play.Control s said) may = (let gone : MayControl w.shared [] s said = rw none at may in gone)
+no-control w none l may = may
 
 -- all workers
 
@@ -83,64 +86,64 @@ one-not p (x ∷ xs) d none =
       | inr lacks ↦ (zero, omega arith, lacks)
     ]
 
-module _ {V : Type 0} (w : World V) (workers : List VringEpollHandler) (are : AreHandlers w.wiring 0 workers) (phases : w.phases ≡ map (λ h. phase_of h) workers) where
-  abbrev Resting : VringEpollHandler → Bool
+module _ {V : Type 0} (w : World V) (workers : List Worker) (are : AreHandlers w.wiring 0 workers) (phases : w.phases ≡ map (λ h. phase_of h) workers) where
+  abbrev Resting : Worker → Bool
   Resting h = rests_in w.shared.table h.opened.list (phase_of h)
 
-  phase-there : (k : ℕ) (d : VringEpollHandler) → k < length workers → phase_at w.phases k ≡ phase_of (get_or workers k d)
+  phase-there : (k : ℕ) (d : Worker) → k < length workers → phase_at w.phases k ≡ phase_of (get_or workers k d)
   phase-there k d within = ap (λ ps. phase_at ps k) phases ∙ get_or-map (λ h. phase_of h) workers k d (Stopped Exit) within
 
   phase-past : (k : ℕ) → length workers ≤ k → phase_at w.phases k ≡ Stopped Exit
   phase-past k past = ap (λ ps. phase_at ps k) phases ∙ get_or_past (map (λ h. phase_of h) workers) k (Stopped Exit) (let long : length (map (λ h. phase_of h) workers) ≡ length workers = length-map workers (λ h. phase_of h) in omega arith)
 
-  rest-there : (k : ℕ) (d : VringEpollHandler) → k < length workers → rests_in w.shared.table (opened_at w.wiring k).list (phase_at w.phases k) ≡ Resting (get_or workers k d)
+  rest-there : (k : ℕ) (d : Worker) → k < length workers → rests_in w.shared.table (opened_at w.wiring k).list (phase_at w.phases k) ≡ Resting (get_or workers k d)
   rest-there k d within =
       let is = handler-at w.wiring 0 workers k d are within in
       let P : ℕ → Type 0 = λ n. IsHandler w.wiring n (get_or workers k d) in
       let own : IsHandler w.wiring k (get_or workers k d) = (let e : 0 + k ≡ k = omega arith in subst P e is) in
       ap (λ p. rests_in w.shared.table (opened_at w.wiring k).list p) (phase-there k d within) ∙ ap (λ o. rests_in w.shared.table o.list (phase_of (get_or workers k d))) (sym own.opened)
 
-  rest-worker : (d : VringEpollHandler) → list_all (λ h. Resting h) workers ≡ true → (k : ℕ) (l : Label) → MayWork w.wiring k w.shared (phase_at w.phases k) l → ⊥
+  rest-worker : (d : Worker) → list_all (λ h. Resting h) workers ≡ true → (k : ℕ) (l : Play) → MayWork w.wiring k w.shared (phase_at w.phases k) l → ⊥
   rest-worker d all k l may =
       elim (cases_lt k (length workers)) [
         | inl within ↦ worker-rests w.wiring k w.shared (phase_at w.phases k) (rest-there k d within ∙ all-at (λ h. Resting h) workers k d all within) l may
         | inr past ↦ (let gone : MayWork w.wiring k w.shared (Stopped Exit) l = rw (phase-past k past) at may in absurd gone)
       ]
 
-  all-rest : (d : VringEpollHandler) → w.guest ≡ [] → list_all (λ h. Resting h) workers ≡ true → IsAtRest w
-  all-rest d done all party.Guest label.Guest may = may done
-  all-rest d done all party.Guest l may = may
-  all-rest d done all party.Control l may = may
-  all-rest d done all (party.Worker k) l may = rest-worker d all k l may
+  all-rest : (d : Worker) → w.guest ≡ [] → w.control.plan.steps ≡ [] → list_all (λ h. Resting h) workers ≡ true → IsAtRest w
+  all-rest d done none all party.Guest play.Guest may = may done
+  all-rest d done none all party.Guest l may = may
+  all-rest d done none all party.Control l may = no-control w none l may
+  all-rest d done none all (party.Worker k) l may = rest-worker d all k l may
 
-  not-rest : (d : VringEpollHandler) → list_all (λ h. Resting h) workers ≡ false → IsAtRest w → ⊥
+  not-rest : (d : Worker) → list_all (λ h. Resting h) workers ≡ false → IsAtRest w → ⊥
   not-rest d none rest =
       let one = one-not (λ h. Resting h) workers d none in
       let step = worker-works w.wiring one.0 w.shared (phase_at w.phases one.0) (rest-there one.0 d one.1 ∙ one.2) in
       rest (party.Worker one.0) step.0 step.1
 
-no-worker : {V : Type 0} (w : World V) → AreHandlers w.wiring 0 [] → w.phases ≡ map (λ h. phase_of h) [] → w.guest ≡ [] → IsAtRest w
-no-worker w are phases done party.Guest label.Guest may = may done
-no-worker w are phases done party.Guest l may = may
-no-worker w are phases done party.Control l may = may
-no-worker w are phases done (party.Worker k) l may = (let gone : MayWork w.wiring k w.shared (Stopped Exit) l = rw (phase-past w [] are phases k (omega arith)) at may in absurd gone)
+no-worker : {V : Type 0} (w : World V) → AreHandlers w.wiring 0 [] → w.phases ≡ map (λ h. phase_of h) [] → w.guest ≡ [] → w.control.plan.steps ≡ [] → IsAtRest w
+no-worker w are phases done none party.Guest play.Guest may = may done
+no-worker w are phases done none party.Guest l may = may
+no-worker w are phases done none party.Control l may = no-control w none l may
+no-worker w are phases done none (party.Worker k) l may = (let gone : MayWork w.wiring k w.shared (Stopped Exit) l = rw (phase-past w [] are phases k (omega arith)) at may in absurd gone)
 
 -- the world is at rest exactly where the guest's list is done and each worker rests
-pub world-rests : {V : Type 0} (w : World V) (workers : List VringEpollHandler) → AreHandlers w.wiring 0 workers → w.phases ≡ map (λ h. phase_of h) workers → w.guest ≡ [] → list_all (λ (h : VringEpollHandler). rests_in w.shared.table h.opened.list (phase_of h)) workers ≡ true → IsAtRest w
-world-rests w [] are phases done all = no-worker w are phases done
-world-rests w (h ∷ hs) are phases done all = all-rest w (h ∷ hs) are phases h done all
+pub world-rests : {V : Type 0} (w : World V) (workers : List Worker) → AreHandlers w.wiring 0 workers → w.phases ≡ map (λ h. phase_of h) workers → w.guest ≡ [] → w.control.plan.steps ≡ [] → list_all (λ (h : Worker). rests_in w.shared.table h.opened.list (phase_of h)) workers ≡ true → IsAtRest w
+world-rests w [] are phases done none all = no-worker w are phases done none
+world-rests w (h ∷ hs) are phases done none all = all-rest w (h ∷ hs) are phases h done none all
 
-pub worker-goes : {V : Type 0} (w : World V) (workers : List VringEpollHandler) → AreHandlers w.wiring 0 workers → w.phases ≡ map (λ h. phase_of h) workers → list_all (λ (h : VringEpollHandler). rests_in w.shared.table h.opened.list (phase_of h)) workers ≡ false → IsAtRest w → ⊥
+pub worker-goes : {V : Type 0} (w : World V) (workers : List Worker) → AreHandlers w.wiring 0 workers → w.phases ≡ map (λ h. phase_of h) workers → list_all (λ (h : Worker). rests_in w.shared.table h.opened.list (phase_of h)) workers ≡ false → IsAtRest w → ⊥
 worker-goes w [] are phases none rest = (let bad : true ≡ false = none in absurd cc)
 worker-goes w (h ∷ hs) are phases none rest = not-rest w (h ∷ hs) are phases h none rest
 
 pub guest-goes : {V : Type 0} (w : World V) → w.guest ≢ [] → IsAtRest w → ⊥
-guest-goes w left rest = rest party.Guest label.Guest left
+guest-goes w left rest = rest party.Guest play.Guest left
 
 -- where the guest's list is done, the answer of the workers is the world's
-pub rests-both : {V : Type 0} (w : World V) (workers : List VringEpollHandler) (b : Bool) → AreHandlers w.wiring 0 workers → w.phases ≡ map (λ h. phase_of h) workers → w.guest ≡ [] → b ≡ list_all (λ (h : VringEpollHandler). rests_in w.shared.table h.opened.list (phase_of h)) workers → IsTrue b ↔ IsAtRest w
-rests-both w workers true are phases done is = ((λ yes-is. world-rests w workers are phases done (sym is)), (λ rest. refl))
-rests-both w workers false are phases done is = ((λ bad. let no-way : false ≡ true = bad in absurd cc), (λ rest. absurd (worker-goes w workers are phases (sym is) rest)))
+pub rests-both : {V : Type 0} (w : World V) (workers : List Worker) (b : Bool) → AreHandlers w.wiring 0 workers → w.phases ≡ map (λ h. phase_of h) workers → w.guest ≡ [] → w.control.plan.steps ≡ [] → b ≡ list_all (λ (h : Worker). rests_in w.shared.table h.opened.list (phase_of h)) workers → IsTrue b ↔ IsAtRest w
+rests-both w workers true are phases done none is = ((λ yes-is. world-rests w workers are phases done none (sym is)), (λ rest. refl))
+rests-both w workers false are phases done none is = ((λ bad. let no-way : false ≡ true = bad in absurd cc), (λ rest. absurd (worker-goes w workers are phases (sym is) rest)))
 
 -- where the guest has an action left, there is no rest
 pub rests-none : {V : Type 0} (w : World V) (b : Bool) → b ≡ false → w.guest ≢ [] → IsTrue b ↔ IsAtRest w

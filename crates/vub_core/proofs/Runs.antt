@@ -9,7 +9,7 @@ use Rattle.vub_mem.specs.Memory.{Guest}
 use Rattle.vub_mem.specs.Place.{content_of}
 use Rattle.vub_model.specs.declared.setup.Object.{Object}
 use Rattle.vub_model.specs.RunRecords.{with_byte, spans_in, spans_from}
-use Rattle.vub_core.specs.Runs.{IsRun}
+use Rattle.vub_core.specs.Spans.{IsSpan}
 
 -- the first span begins at this place or behind it
 abbrev BeginsFrom : ℕ → List Span → Type 0
@@ -69,7 +69,7 @@ run_first flags number start (suc n) (byte ∷ bytes) within all stops =
     ∙ ap (λ k. record { object = number; offset = start; bytes = byte ∷ take (suc n) bytes } ∷ spans_in flags number k (drop (suc n) bytes)) (sym up)
 
 -- the loop over one content: a run is pushed
-pub push_run : (all : List (List Bool)) (flags : List Bool) (number at end : ℕ) (content : List ℕ) (spans next goal : List Span) (s : Span) → get_or all number [] ≡ flags → IsRun flags at (length content) end → s ≡ record { object = number; offset = at; bytes = take (end - at) (drop at content) } → next ≡ spans ++ s ∷ [] → spans ++ spans_in all number at (drop at content) ≡ goal → next ++ spans_in all number end (drop end content) ≡ goal
+pub push_run : (all : List (List Bool)) (flags : List Bool) (number at end : ℕ) (content : List ℕ) (spans next goal : List Span) (s : Span) → get_or all number [] ≡ flags → IsSpan flags at (length content) end → s ≡ record { object = number; offset = at; bytes = take (end - at) (drop at content) } → next ≡ spans ++ s ∷ [] → spans ++ spans_in all number at (drop at content) ≡ goal → next ++ spans_in all number end (drop end content) ≡ goal
 push_run all flags number at end content spans next goal s is run span push so =
     let n : ℕ = end - at - 1 in
     let size : suc n ≡ end - at = omega (arith, run.some) in

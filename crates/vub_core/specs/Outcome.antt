@@ -1,51 +1,55 @@
 -- What a schedule came to.
-use Rattle.std.specs.Prelude.{◌≡◌, ◌<◌, ◌≤◌, ℕ, List, length, take}
+use Rattle.std.specs.Prelude.{◌≡◌, ◌<◌, ◌≤◌, ℕ, List, length, map, take, Some}
 use Rattle.vub_model.specs.declared.constants.Constants.{Constants}
-use Rattle.vub_model.specs.declared.label.Label.{Label}
+use Rattle.vub_model.specs.declared.play.Play.{Play}
 use Rattle.vub_model.specs.declared.run.DriveFault.{DriveFault}
 use Rattle.vub_model.specs.declared.run.DriveFault.TheVariants as drive_fault
 use Rattle.vub_model.specs.declared.run.Run.{Run}
 use Rattle.vub_model.specs.declared.setup.Setup.{Setup}
-use Rattle.vub_model.specs.Headline.{IsServed, TakesAreLive, IsConfined}
-use Rattle.vub_model.specs.Opening.{opening, is_registered}
-use Rattle.vub_model.specs.RunOf.{IsRun, PollsLeast, IsAtRest}
+use Rattle.vub_model.specs.DeviceCalls.{Telling, label_of, calls}
+use Rattle.vub_model.specs.Faithful.{IsFaithful}
+use Rattle.vub_model.specs.Opening.{opening}
+use Rattle.vub_model.specs.RunOf.{IsRun, PollsLeast}
 use Rattle.vub_model.specs.RunRecords.{Shows}
-use Rattle.vub_model.specs.Running.{NoneIsLost, calm_end}
 use Rattle.vub_model.specs.Service.{Meaning}
 use Rattle.vub_model.specs.ValidSetup.{IsValid, fault_of}
 use Rattle.vub_model.specs.World.{World}
-use Rattle.std.specs.Prelude.{Some}
+use Rattle.vub_core.specs.DeviceRun.{DeviceState, HasMade}
 
--- The headline. The run handed back is a run of the machine of party turns for this schedule, from the opening of the
--- set-up: each turn passes only where its party has no step, and each poll takes the ready member with the least number.
--- Each queue took its entries once and in order, numbered from its base, and used each with the service's reply to the
--- bytes read at taking, but for at most one in flight or held; entries were taken of live rings only; a worker wrote no
--- byte but those of its step. And at rest a calm running queue has no entry left.
-pub record IsPlayed {V : Type 0} (m : Meaning V) (constants : Constants) (setup : Setup) (schedule : List ℕ) (v end : V) (run : Run) : Type 0 where
+-- The headline. The run handed back shows the labels of plays that are a run of the machine of party turns for this
+-- schedule, from the opening of the set-up: each turn passes only where its party has no step, and each poll takes the
+-- ready member with the least number. The run is faithful: what that says of entries, uses, writes and kicks stands there.
+-- Service and device are as their calls in this run left them.
+pub record IsPlayed {V D : Type 0} (m : Meaning V) (t : Telling D) (constants : Constants) (setup : Setup)
+    (schedule : List ℕ) (v end : V) (before now : DeviceState D) (run : Run) : Type 0 where
   pub valid : IsValid constants setup
+  pub plays : List Play
   pub closing : World V
-  pub is_run : IsRun m schedule run.labels (opening constants setup v) closing
-  pub least : PollsLeast m schedule run.labels (opening constants setup v)
-  pub shows : Shows setup.objects run.labels closing run
+  pub is_run : IsRun m schedule plays (opening constants setup v) closing
+  pub least : PollsLeast m schedule plays (opening constants setup v)
+  pub shows : Shows setup.objects (map label_of plays) closing run
   pub value : end ≡ closing.shared.service
-  pub served : IsServed m schedule run.labels (opening constants setup v) closing
-  pub live : TakesAreLive m schedule run.labels (opening constants setup v)
-  pub confined : IsConfined m schedule run.labels (opening constants setup v)
-  pub none_lost : IsAtRest closing → NoneIsLost closing (calm_end m schedule run.labels (opening constants setup v) (is_registered setup.rings))
+  pub made : HasMade t before now (calls m schedule plays (opening constants setup v))
+  pub faithful : IsFaithful m constants setup v schedule plays closing
 
 -- Memory was refused after this many turns. They are a run for the front of the schedule, from the opening of the set-up,
--- each of whose polls takes the ready member with the least number, as in the run of the whole schedule; and the service's
--- value is the one after them. A turn was finished only of a valid set-up.
-pub record IsCutShort {V : Type 0} (m : Meaning V) (constants : Constants) (setup : Setup) (schedule : List ℕ) (v end : V) (done : ℕ) : Type 0 where
+-- each of whose polls takes the ready member with the least number, as in the run of the whole schedule; and service and
+-- device are as their calls in these turns left them. A turn was finished only of a valid set-up.
+pub record IsCutShort {V D : Type 0} (m : Meaning V) (t : Telling D) (constants : Constants) (setup : Setup)
+    (schedule : List ℕ) (v end : V) (before now : DeviceState D) (done : ℕ) : Type 0 where
   pub valid : 0 < done → IsValid constants setup
-  pub labels : List Label
+  pub plays : List Play
   pub closing : World V
   pub within : done ≤ length schedule
-  pub is_run : IsRun m (take done schedule) labels (opening constants setup v) closing
-  pub least : PollsLeast m (take done schedule) labels (opening constants setup v)
+  pub is_run : IsRun m (take done schedule) plays (opening constants setup v) closing
+  pub least : PollsLeast m (take done schedule) plays (opening constants setup v)
   pub value : end ≡ closing.shared.service
+  pub made : HasMade t before now (calls m (take done schedule) plays (opening constants setup v))
 
--- why there is no run: the first test that the set-up fails, and then the service was not asked; or want of memory
-abbrev pub IsRefused : {V : Type 0} → Meaning V → Constants → Setup → List ℕ → V → V → DriveFault → Type 0
-IsRefused m constants setup schedule v end (drive_fault.Setup fault) = (fault_of constants setup ≡ Some fault) × (end ≡ v)
-IsRefused m constants setup schedule v end (drive_fault.OutOfMemory done) = IsCutShort m constants setup schedule v end done
+-- why there is no run: the first test that the set-up fails, and then neither service nor device was asked for more than
+-- the device's constants; or want of memory
+abbrev pub IsRefused : {V D : Type 0} → Meaning V → Telling D → Constants → Setup → List ℕ → V → V → DeviceState D → DeviceState D → DriveFault → Type 0
+IsRefused m t constants setup schedule v end before now (drive_fault.Setup fault) =
+    (fault_of constants setup ≡ Some fault) × (end ≡ v) × (now ≡ before)
+IsRefused m t constants setup schedule v end before now (drive_fault.OutOfMemory done) =
+    IsCutShort m t constants setup schedule v end before now done

@@ -1,20 +1,27 @@
 -- What playing a schedule came to, so far.
-use Rattle.std.specs.Prelude.{◌≡◌, ◌≤◌, ℕ, List, length, take}
+use Rattle.std.specs.Prelude.{◌≡◌, ◌≤◌, ℕ, List, length, map, take}
 use Rattle.vub_model.specs.declared.label.Label.{Label}
+use Rattle.vub_model.specs.declared.play.Play.{Play}
+use Rattle.vub_model.specs.DeviceCalls.{Telling, label_of, calls}
 use Rattle.vub_model.specs.RunOf.{IsRun, PollsLeast}
 use Rattle.vub_model.specs.Service.{Meaning}
 use Rattle.vub_model.specs.World.{World}
+use Rattle.vub_core.specs.DeviceRun.{DeviceState, HasMade}
 
--- the labels are a run, each of whose polls takes the ready member with the least number
-pub record HasPlayed {V : Type 0} (m : Meaning V) (schedule : List ℕ) (labels : List Label) (old new : World V) : Type 0 where
-  pub is_run : IsRun m schedule labels old new
-  pub least : PollsLeast m schedule labels old
+-- there are plays with these labels that are a run, each of whose polls takes the ready member with the least number, and
+-- whose calls the device has made
+pub record HasPlayed {V D : Type 0} (m : Meaning V) (t : Telling D) (schedule : List ℕ) (labels : List Label)
+    (old new : World V) (before now : DeviceState D) : Type 0 where
+  pub plays : List Play
+  pub labels_are : labels ≡ map label_of plays
+  pub is_run : IsRun m schedule plays old new
+  pub least : PollsLeast m schedule plays old
+  pub made : HasMade t before now (calls m schedule plays old)
 
--- the labels are a run of the front of the schedule, each of whose polls takes the ready member with the least number, and
--- the service has the value that it left
-pub record WasCutShort {V : Type 0} (m : Meaning V) (schedule : List ℕ) (labels : List Label) (old : World V) (end : V) : Type 0 where
+-- the labels are those of a run of the front of the schedule, and service and device are as it left them
+pub record WasCutShort {V D : Type 0} (m : Meaning V) (t : Telling D) (schedule : List ℕ) (labels : List Label)
+    (old : World V) (end : V) (before now : DeviceState D) : Type 0 where
   pub closing : World V
   pub within : length labels ≤ length schedule
-  pub is_run : IsRun m (take (length labels) schedule) labels old closing
-  pub least : PollsLeast m (take (length labels) schedule) labels old
+  pub front : HasPlayed m t (take (length labels) schedule) labels old closing before now
   pub value : end ≡ closing.shared.service

@@ -6,8 +6,8 @@ use Rattle.vub_proto.specs.declared.used.Used.{Used}
 use Rattle.vub_queue.specs.Layout.{avail_event_at}
 use Rattle.vub_queue.specs.Put.{put_answer}
 use Rattle.vub_queue.specs.Ring.{Ring}
-use Rattle.vub_model.specs.declared.label.Label.{Label}
-use Rattle.vub_model.specs.declared.label.Label.TheVariants as label
+use Rattle.vub_model.specs.declared.play.Play.{Play}
+use Rattle.vub_model.specs.declared.play.Play.TheVariants as play
 use Rattle.vub_model.specs.declared.phase.Phase.{Phase}
 use Rattle.vub_model.specs.declared.phase.Phase.TheVariants.{Idle, Serving}
 use Rattle.vub_model.specs.World.{used_of}
@@ -23,14 +23,14 @@ uses_in None = []
 uses_in (Some f) = used_of f.entry f.reply ∷ []
 
 -- a Take that ended in this phase found nothing
-abbrev pub left_none : Label → Phase → Bool
-left_none label.Take Idle = true
-left_none label.Take (Serving queues) = true
+abbrev pub left_none : Play → Phase → Bool
+left_none play.Take Idle = true
+left_none play.Take (Serving queues) = true
 left_none l phase = false
 
 -- The flags after a step: what the use of the finished entry wrote is flagged, and avail_event where a take found nothing
 -- and its word is covered. Any other step wrote nothing.
-abbrev pub IsWritten : List Region → Footprint → Label → Phase → Option Finished → List (List Bool) → List (List Bool) → Type 0
+abbrev pub IsWritten : List Region → Footprint → Play → Phase → Option Finished → List (List Bool) → List (List Bool) → Type 0
 IsWritten rs (Use place) l now (Some f) old new =
     (r : Ring) (wanted answer : Bool) → IsUsePlace r place → put_answer rs r f.entry.chain f.reply wanted ≡ Ok answer → new ≡ with_spots old (put_spots rs r f.entry.chain f.reply)
 IsWritten rs (Use place) l now None old new = new ≡ old

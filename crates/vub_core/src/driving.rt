@@ -1,45 +1,49 @@
 ghost use Rattle.std.specs.Prelude.{◌≡◌, ◌<◌, ◌+◌, ◌^◌, length, IfOk, IfErr};
-ghost use Rattle.vub_model.specs.Opening.{opening, wiring_of};
+ghost use Rattle.vub_model.specs.Opening.{opening, opening_control, wiring_of};
 ghost use Rattle.vub_model.specs.ValidSetup.{IsValid};
-ghost use Rattle.vub_core.specs.Asked.{constants_by, meaning_by};
-ghost use Rattle.vub_core.specs.Hosts.{NeverFails};
-ghost use Rattle.vub_core.specs.Machine.{world_of};
+ghost use Rattle.vub_open.specs.Asked.{constants_by};
+ghost use Rattle.vub_open.specs.Hosts.{NeverFails};
+ghost use Rattle.vub_core.specs.DeviceRun.{state_by, telling_by};
+ghost use Rattle.vub_core.specs.Machine.{world_of, opened_world};
+ghost use Rattle.vub_core.specs.Meanings.{meaning_by};
 ghost use Rattle.vub_core.specs.Outcome.{IsPlayed, IsRefused};
 ghost use Rattle.vub_core.specs.Workers.{AreHandlers};
 
-use crate::constants::read_constants;
 use crate::finish::finish;
 use crate::machine::Machine;
 use crate::opening::open;
 use crate::playing::play;
-use crate::testing::NO_MEMORY;
 use std::alloc::Global;
 use vub_model::{Constants, DriveFault, Run, Setup};
+use vub_open::{NO_MEMORY, read_constants};
 use vub_proto::{Service, VhostUserBackendMut};
 
 /// Turns are fewer than this: the labels of more would not fit into memory.
-const MOST_TURNS: usize = 1 << 60;
+const MAX_TURNS: usize = 1 << 60;
 
 /// Plays a schedule on a machine that was opened.
-fn play_opened<V: Service>(
+fn play_opened<D: VhostUserBackendMut, V: Service>(
     alloc: Global,
     machine: Machine,
     setup: &Setup,
+    device: &mut D,
     service: &mut V,
     constants: &Constants,
     schedule: &[u32],
 ) -> Result<Run, DriveFault>
-    requires opened { world_of (wiring_of constants.now (length setup.now.objects)) setup.now.guest machine (tt {0}) ≡ opening constants.now setup.now (tt {0}) }
+    requires opened { opened_world constants.now setup.now machine ≡ opening constants.now setup.now (tt {0}) }
     requires workers { AreHandlers (wiring_of constants.now (length setup.now.objects)) 0 machine.workers.items }
     requires sound { NeverFails machine.store.host }
     requires valid { IsValid constants.now setup.now }
     requires numbers { length setup.now.objects + length constants.now.masks < 2 ^ 32 }
-    ensures played { IfOk result
-        (IsPlayed (meaning_by V.Service) constants.now setup.now schedule.now service.old service.new) }
-    ensures refused { IfErr result
-        (IsRefused (meaning_by V.Service) constants.now setup.now schedule.now service.old service.new) }
+    ensures played { IfOk result (IsPlayed (meaning_by V.Service) (telling_by D.VhostUserBackendMut)
+        constants.now setup.now schedule.now service.old service.new
+        (state_by D.VhostUserBackendMut device.old) (state_by D.VhostUserBackendMut device.new)) }
+    ensures refused { IfErr result (IsRefused (meaning_by V.Service) (telling_by D.VhostUserBackendMut)
+        constants.now setup.now schedule.now service.old service.new
+        (state_by D.VhostUserBackendMut device.old) (state_by D.VhostUserBackendMut device.new)) }
 {
-    if schedule.len() >= MOST_TURNS {
+    if schedule.len() >= MAX_TURNS {
         return Err(NO_MEMORY);
     }
     let mut machine = machine;
@@ -48,6 +52,7 @@ fn play_opened<V: Service>(
     match play(
         alloc,
         &mut machine,
+        device,
         service,
         constants,
         guest,
@@ -76,16 +81,16 @@ fn play_opened<V: Service>(
 
 /// Opens a set-up and plays a schedule, one step a turn: party 0 is the guest, party 1 is control, and party 2 + w is
 /// worker w. A turn of a party that has no step, or is not there, is `Pass`. Each poll takes the ready object with the
-/// least number.
+/// least number. The device is asked for its constants, and then to handle each event that a listener reported.
 ///
 /// The run is one of the machine of party turns, from the opening of the set-up. Each queue took its entries once and in
 /// order, numbered from its base, and used each with the service's reply to the bytes read at taking, but for at most one
 /// in flight or held; and at rest a calm running queue has no entry left.
 ///
 /// # Errors
-/// The first test of `SetupFault` that the set-up fails, and then the service was not asked; or want of memory, where
-/// `done` turns are finished, and the service is as those turns left it. The turn at which memory was refused does not
-/// count, and nothing of it is to be seen.
+/// The first test of `SetupFault` that the set-up fails, and then the service was not asked, nor the device for more than
+/// its constants; or want of memory, where `done` turns are finished, and service and device are as those turns left them.
+/// The turn at which memory was refused does not count, and nothing of it is to be seen.
 pub fn drive<D: VhostUserBackendMut, V: Service>(
     alloc: Global,
     setup: &Setup,
@@ -93,13 +98,12 @@ pub fn drive<D: VhostUserBackendMut, V: Service>(
     service: &mut V,
     schedule: &[u32],
 ) -> Result<Run, DriveFault>
-    ensures played { IfOk result
-        (IsPlayed (meaning_by V.Service) (constants_by D.VhostUserBackendMut device.old) setup.now schedule.now
-        service.old service.new) }
-    ensures refused { IfErr result
-        (IsRefused (meaning_by V.Service) (constants_by D.VhostUserBackendMut device.old) setup.now schedule.now
-        service.old service.new) }
-    ensures device { device.new ≡ device.old }
+    ensures played { IfOk result (IsPlayed (meaning_by V.Service) (telling_by D.VhostUserBackendMut)
+        (constants_by D.VhostUserBackendMut device.old) setup.now schedule.now service.old service.new
+        (state_by D.VhostUserBackendMut device.old) (state_by D.VhostUserBackendMut device.new)) }
+    ensures refused { IfErr result (IsRefused (meaning_by V.Service) (telling_by D.VhostUserBackendMut)
+        (constants_by D.VhostUserBackendMut device.old) setup.now schedule.now service.old service.new
+        (state_by D.VhostUserBackendMut device.old) (state_by D.VhostUserBackendMut device.new)) }
 {
     let constants = match read_constants(alloc, &*device) {
         Ok(constants) => constants,
@@ -109,5 +113,5 @@ pub fn drive<D: VhostUserBackendMut, V: Service>(
         Ok(machine) => machine,
         Err(fault) => return Err(fault),
     };
-    play_opened(alloc, machine, setup, service, &constants, schedule)
+    play_opened(alloc, machine, setup, device, service, &constants, schedule)
 }

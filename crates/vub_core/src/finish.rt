@@ -1,9 +1,8 @@
 ghost use Rattle.std.specs.Prelude.{◌≡◌, ◌<◌, ◌^◌, length, IfOk};
-ghost use Rattle.vub_model.specs.Wiring.{Wiring};
 ghost use Rattle.vub_model.specs.RunRecords.{Shows};
-ghost use Rattle.vub_core.specs.Hosts.{NeverFails};
+ghost use Rattle.vub_open.specs.Hosts.{NeverFails};
+ghost use Rattle.vub_core.specs.ForWiring.{ForWiring};
 ghost use Rattle.vub_core.specs.Machine.{world_of};
-ghost use Rattle.vub_core.specs.Workers.{AreHandlers};
 
 use crate::counting::{counts_of, stops_of};
 use crate::machine::Machine;
@@ -27,7 +26,8 @@ pub(crate) fn finish<V: Service>(
     requires sound { NeverFails machine.store.host }
     requires objects { length objects.now < 2 ^ 32 }
     requires workers { length machine.workers.items < 2 ^ 32 }
-    ensures { (g : Wiring) → AreHandlers g 0 machine.workers.items → IfOk result (λ run. Shows objects.now labels.items (world_of g guest.now machine service.now) run) }
+    ensures { ForWiring machine (λ g control. IfOk result
+        (Shows objects.now labels.items (world_of g control guest.now machine service.now))) }
 {
     let mut machine = machine;
     let rest = at_rest(&mut machine, service, guest);

@@ -2,25 +2,16 @@
 //! is the guest, party 1 is control, and party 2 + w is worker w.
 #![tactic(auto)]
 
-mod constants;
 mod counting;
 mod driving;
-#[cfg(test)]
-mod fault_tests;
-mod faults;
 mod finish;
 mod footprint;
 mod machine;
-mod new_host;
-mod new_rings;
 mod opening;
-mod places;
 mod playing;
 mod records;
-mod registering;
 mod rest;
 mod spans;
-mod testing;
 mod turns;
 mod written;
 

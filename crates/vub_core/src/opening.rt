@@ -1,77 +1,23 @@
 //! The machine that a valid set-up opens.
-ghost use Rattle.std.specs.Prelude.{◌≡◌, ◌+◌, ◌<◌, ◌^◌, [], None, length, map, IfOk, IfErr, OnOk};
+ghost use Rattle.std.specs.Prelude.{◌≡◌, ◌+◌, ◌<◌, ◌^◌, None, length, map, IfOk, IfErr, OnOk};
 ghost use Rattle.std.specs.List.{range_with_len};
 ghost use Rattle.vub_model.specs.declared.phase.Phase.TheVariants.{Idle};
-ghost use Rattle.vub_model.specs.Opening.{opening, before_rings, opened_worker, wiring_of};
+ghost use Rattle.vub_model.specs.Opening.{opening, opened_worker, wiring_of};
 ghost use Rattle.vub_model.specs.ValidSetup.{fault_of, contents_from, given_region};
 ghost use Rattle.vub_loop.specs.Handler.{phase_of, new_handler};
-ghost use Rattle.vub_core.specs.Machine.{world_of};
-ghost use Rattle.vub_core.specs.Opened.{unserved};
-ghost use Rattle.vub_core.specs.Refused.{IsRefusal};
+ghost use Rattle.vub_core.specs.Machine.{opened_world};
+ghost use Rattle.vub_open.specs.Hosts.{NeverFails};
+ghost use Rattle.vub_open.specs.Refused.{IsRefusal};
 ghost use Rattle.vub_core.specs.Workers.{AreHandlers};
 
 use crate::machine::Machine;
-use crate::new_host::{open_host, opened_worker};
-use crate::new_rings::{open_pending, open_rings};
 use crate::records::Records;
-use crate::registering::register_rings;
-use crate::testing::{NO_MEMORY, tested};
 use std::alloc::Global;
 use vub_base::OutOfMemory;
 use vub_loop::VringEpollHandler;
 use vub_mem::GuestMemory;
 use vub_model::{Constants, DriveFault, Setup};
-use vub_vring::Store;
-
-/// The store before the registration of the given rings.
-#[tactic(auto, using(crate::proofs::ValidParts::valid_rings))]
-fn new_store(
-    alloc: Global,
-    setup: &Setup,
-    constants: &Constants,
-    memory: GuestMemory<()>,
-) -> Result<Store<()>, OutOfMemory>
-    requires numbers { length setup.now.objects + length constants.now.masks < 2 ^ 32 }
-    requires valid { fault_of constants.now setup.now ≡ None }
-    requires guest { memory.guest ≡ record { regions = map given_region setup.now.regions; contents = contents_from 0 setup.now.objects } }
-    ensures shared { IfOk result (λ s. unserved s ≡ before_rings constants.now setup.now (tt {0})) }
-    ensures sets { IfOk result (λ s. length s.pending.items ≡ length constants.now.masks) }
-    ensures sound { IfOk result (λ s. s.host.plan.calls.items ≡ []) }
-{
-    let host = open_host(alloc, setup.objects.as_slice(), constants)?;
-    let rings = open_rings(alloc, constants, setup.rings.as_slice())?;
-    let pending = open_pending(alloc, constants.masks.as_slice())?;
-    Ok(Store {
-        memory,
-        rings,
-        host,
-        pending,
-    })
-}
-
-/// What guest, control and workers of a valid set-up share when its run begins: its guest memory, a ring for each queue, an
-/// event for each object, and a bell, an interest list and a pending set for each worker; the given rings are registered.
-///
-/// # Errors
-/// Want of memory.
-#[tactic(auto, unfolding(vub_model::specs::Opening::opening))]
-pub(crate) fn open_store(
-    alloc: Global,
-    setup: &Setup,
-    constants: &Constants,
-    memory: GuestMemory<()>,
-) -> Result<Store<()>, OutOfMemory>
-    requires numbers { length setup.now.objects + length constants.now.masks < 2 ^ 32 }
-    requires valid { fault_of constants.now setup.now ≡ None }
-    requires guest { memory.guest ≡ record { regions = map given_region setup.now.regions; contents = contents_from 0 setup.now.objects } }
-    ensures shared { IfOk result (λ s. unserved s ≡ (opening constants.now setup.now (tt {0})).shared) }
-    ensures sound { IfOk result (λ s. s.host.plan.calls.items ≡ []) }
-{
-    let mut store = new_store(alloc, setup, constants, memory)?;
-    let count = setup.objects.len() as u32;
-    register_rings(alloc, &mut store, constants, count, setup.rings.as_slice())?;
-    Ok(store)
-}
+use vub_open::{NO_MEMORY, open_store, opened_worker, validate};
 
 /// The workers, each before its first step, behind `count` objects.
 ///
@@ -106,9 +52,9 @@ fn open_machine(
     requires numbers { length setup.now.objects + length constants.now.masks < 2 ^ 32 }
     requires valid { fault_of constants.now setup.now ≡ None }
     requires guest { memory.guest ≡ record { regions = map given_region setup.now.regions; contents = contents_from 0 setup.now.objects } }
-    ensures world { IfOk result (λ m. world_of (wiring_of constants.now (length setup.now.objects)) setup.now.guest m (tt {0}) ≡ opening constants.now setup.now (tt {0})) }
+    ensures world { IfOk result (λ m. opened_world constants.now setup.now m ≡ opening constants.now setup.now (tt {0})) }
     ensures workers { IfOk result (λ m. AreHandlers (wiring_of constants.now (length setup.now.objects)) 0 m.workers.items) }
-    ensures sound { IfOk result (λ m. m.store.host.plan.calls.items ≡ []) }
+    ensures sound { IfOk result (λ m. NeverFails m.store.host) }
 {
     let store = open_store(alloc, setup, constants, memory)?;
     let workers = open_handlers(alloc, constants, setup.objects.len() as u32)?;
@@ -132,12 +78,12 @@ pub(crate) fn open(
 ) -> Result<Machine, DriveFault>
     ensures refused { IfErr result (λ f. IsRefusal (fault_of constants.now setup.now) f) }
     ensures valid { OnOk result (fault_of constants.now setup.now ≡ None) }
-    ensures world { IfOk result (λ m. world_of (wiring_of constants.now (length setup.now.objects)) setup.now.guest m (tt {0}) ≡ opening constants.now setup.now (tt {0})) }
+    ensures world { IfOk result (λ m. opened_world constants.now setup.now m ≡ opening constants.now setup.now (tt {0})) }
     ensures workers { IfOk result (λ m. AreHandlers (wiring_of constants.now (length setup.now.objects)) 0 m.workers.items) }
-    ensures sound { IfOk result (λ m. m.store.host.plan.calls.items ≡ []) }
+    ensures sound { IfOk result (λ m. NeverFails m.store.host) }
     ensures numbers { OnOk result (length setup.now.objects + length constants.now.masks < 2 ^ 32) }
 {
-    let memory = tested(alloc, setup, constants)?;
+    let memory = validate(alloc, setup, constants)?;
     match open_machine(alloc, setup, constants, memory) {
         Ok(machine) => Ok(machine),
         Err(_) => Err(NO_MEMORY),

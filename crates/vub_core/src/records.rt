@@ -1,5 +1,5 @@
 ghost use Rattle.std.specs.Prelude.{◌≡◌, ◌⊎◌, ◌++◌, ◌∷◌, [], map, OnOk, OnErr, IfOk, IsSome};
-ghost use Rattle.vub_model.specs.declared.label.Label.{Label};
+ghost use Rattle.vub_model.specs.declared.play.Play.{Play};
 ghost use Rattle.vub_model.specs.World.{takes_by, used_of};
 ghost use Rattle.vub_model.specs.Opening.{unwritten};
 ghost use Rattle.vub_core.specs.Recorded.{uses_in, left_none, IsWritten};
@@ -10,7 +10,7 @@ use std::alloc::Global;
 use vub_base::{Bytes, OutOfMemory};
 use vub_loop::Finished;
 use vub_mem::GuestMemory;
-use vub_model::{Label, Object, Phase, Take};
+use vub_model::{Object, Phase, Play, Take};
 use vub_proto::Used;
 
 /// What a run records of its steps.
@@ -25,14 +25,14 @@ pub(crate) struct Records {
 fn push_take(
     alloc: Global,
     takes: &mut Vec<Take>,
-    label: Label,
+    play: &Play,
     phase: &Phase,
 ) -> Result<(), OutOfMemory>
-    ensures ok { OnOk result (takes.new.items ≡ takes.old.items ++ takes_by label phase.now) }
-    ensures err { OnErr result (label ≡ Label.Take) }
+    ensures ok { OnOk result (takes.new.items ≡ takes.old.items ++ takes_by play.now phase.now) }
+    ensures err { OnErr result (play.now ≡ Play.Take) }
 {
-    match (label, phase) {
-        (Label::Take, Phase::Taken(entry, _)) => {
+    match (play, phase) {
+        (Play::Take, Phase::Taken(entry, _)) => {
             let request = Bytes::from_slice(alloc, entry.chain.request.as_slice())?;
             takes.push(Take {
                 queue: entry.queue,
@@ -75,12 +75,12 @@ fn push_finished(uses: &mut Vec<Used>, finished: Option<Finished>) -> Result<(),
 }
 
 /// Whether a Take that ended in this phase found nothing.
-fn left_none(label: Label, phase: &Phase) -> bool
-    ensures { result ≡ left_none label phase.now }
+fn left_none(play: &Play, phase: &Phase) -> bool
+    ensures { result ≡ left_none play.now phase.now }
 {
-    match (label, phase) {
-        (Label::Take, Phase::Idle) => true,
-        (Label::Take, Phase::Serving(_)) => true,
+    match (play, phase) {
+        (Play::Take, Phase::Idle) => true,
+        (Play::Take, Phase::Serving(_)) => true,
         _ => false,
     }
 }
@@ -90,11 +90,11 @@ fn flag(
     written: &mut Written,
     memory: &GuestMemory<()>,
     footprint: Footprint,
-    label: Label,
+    play: &Play,
     phase: &Phase,
     finished: &Option<Finished>,
 )
-    ensures { IsWritten memory.now.guest.regions footprint label phase.now finished.now written.old written.new }
+    ensures { IsWritten memory.now.guest.regions footprint play.now phase.now finished.now written.old written.new }
 {
     match footprint {
         Footprint::Nothing => {}
@@ -109,7 +109,7 @@ fn flag(
             }
         }
         Footprint::Event(place) => {
-            if left_none(label, phase) {
+            if left_none(play, phase) {
                 written.flag_event(memory, place);
             }
         }
@@ -130,7 +130,7 @@ impl Records {
         })
     }
 
-    /// Records a worker's step of this label, which could write the words of the footprint, ended in this phase and
+    /// Records a worker's step of this play, which could write the words of the footprint, ended in this phase and
     /// finished this entry.
     ///
     /// # Errors
@@ -140,24 +140,17 @@ impl Records {
         alloc: Global,
         memory: &GuestMemory<()>,
         footprint: Footprint,
-        label: Label,
+        play: &Play,
         phase: &Phase,
         finished: Option<Finished>,
     ) -> Result<(), OutOfMemory>
-        ensures takes { OnOk result (self.new.takes.items ≡ self.old.takes.items ++ takes_by label phase.now) }
+        ensures takes { OnOk result (self.new.takes.items ≡ self.old.takes.items ++ takes_by play.now phase.now) }
         ensures uses { OnOk result (self.new.uses.items ≡ self.old.uses.items ++ uses_in finished) }
-        ensures err { OnErr result ((label ≡ Label.Take) ⊎ IsSome finished) }
-        ensures written { IsWritten memory.now.guest.regions footprint label phase.now finished self.old.written self.new.written }
+        ensures err { OnErr result ((play.now ≡ Play.Take) ⊎ IsSome finished) }
+        ensures written { IsWritten memory.now.guest.regions footprint play.now phase.now finished self.old.written self.new.written }
     {
-        flag(
-            &mut self.written,
-            memory,
-            footprint,
-            label,
-            phase,
-            &finished,
-        );
+        flag(&mut self.written, memory, footprint, play, phase, &finished);
         push_finished(&mut self.uses, finished)?;
-        push_take(alloc, &mut self.takes, label, phase)
+        push_take(alloc, &mut self.takes, play, phase)
     }
 }

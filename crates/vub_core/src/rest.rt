@@ -1,21 +1,14 @@
 //! Whether a party has a step.
 ghost use Rattle.std.specs.List.{list_all};
-ghost use Rattle.std.specs.Prelude.{◌≡◌, ◌↔◌, List, IsTrue};
-ghost use Rattle.vub_event.specs.HostTable.{ready_members};
-ghost use Rattle.vub_model.specs.declared.setup.Guest.{Guest};
-ghost use Rattle.vub_model.specs.declared.label.Label.{Label};
-ghost use Rattle.vub_model.specs.declared.party.Party.{Party};
+ghost use Rattle.std.specs.Prelude.{◌≡◌, ◌↔◌, IsTrue};
+ghost use Rattle.vub_model.specs.Control.{Control};
 ghost use Rattle.vub_model.specs.Wiring.{Wiring};
-ghost use Rattle.vub_model.specs.Work.{MayWork};
-ghost use Rattle.vub_model.specs.World.{May};
 ghost use Rattle.vub_model.specs.RunOf.{IsAtRest};
-ghost use Rattle.vub_vring.specs.Store.{shared_of};
-ghost use Rattle.vub_loop.specs.Handler.{IsHandler, phase_of};
-ghost use Rattle.vub_loop.specs.Plays.{HasNoWork};
-ghost use Rattle.vub_core.specs.Hosts.{NeverFails};
+ghost use Rattle.vub_loop.specs.Handler.{phase_of};
+ghost use Rattle.vub_open.specs.Hosts.{NeverFails};
+ghost use Rattle.vub_core.specs.ForWiring.{ForWiring};
 ghost use Rattle.vub_core.specs.Machine.{world_of};
 ghost use Rattle.vub_core.specs.Rest.{has_report, rests_in};
-ghost use Rattle.vub_core.specs.Workers.{AreHandlers};
 
 use crate::machine::Machine;
 use vub_event::{Host, MemHost};
@@ -45,7 +38,7 @@ fn worker_rests(host: &mut MemHost, worker: &VringEpollHandler) -> bool
 {
     match worker.phase() {
         Phase::Idle => !has_report(host, worker.opened().list),
-        Phase::Heard { .. } | Phase::Stopped(_) => true,
+        Phase::Stopped(_) => true,
         _ => false,
     }
 }
@@ -66,11 +59,12 @@ fn workers_rest(host: &mut MemHost, workers: &[VringEpollHandler]) -> bool
 }
 
 /// Whether no party has a step.
-
 pub(crate) fn at_rest<V: Service>(machine: &mut Machine, service: &V, guest: &[Guest]) -> bool
     requires { NeverFails machine.old.store.host }
-    ensures rests { (g : Wiring) → AreHandlers g 0 machine.old.workers.items → IsTrue result ↔ IsAtRest (world_of g guest.now machine.old service.now) }
-    ensures same { (g : Wiring) → world_of g guest.now machine.new service.now ≡ world_of g guest.now machine.old service.now }
+    ensures rests { ForWiring machine.old (λ g control.
+        IsTrue result ↔ IsAtRest (world_of g control guest.now machine.old service.now)) }
+    ensures same { (g : Wiring) (control : Control) → world_of g control guest.now machine.new service.now
+        ≡ world_of g control guest.now machine.old service.now }
     ensures workers { machine.new.workers ≡ machine.old.workers }
 {
     machine.acted >= guest.len() && workers_rest(&mut machine.store.host, &machine.workers)

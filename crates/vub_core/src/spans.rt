@@ -2,7 +2,7 @@ ghost use Rattle.std.specs.Prelude.{◌≡◌, ◌<◌, ◌≤◌, ◌++◌, ◌
 ghost use Rattle.std.specs.List.{list_any};
 ghost use Rattle.vub_mem.specs.Place.{content_of};
 ghost use Rattle.vub_model.specs.RunRecords.{spans_in, spans_from};
-ghost use Rattle.vub_core.specs.Runs.{IsRun};
+ghost use Rattle.vub_core.specs.Spans.{IsSpan};
 
 use crate::written::Written;
 use std::alloc::Global;
@@ -24,7 +24,7 @@ fn is_flagged(flags: &[bool], place: usize) -> bool
 fn end_of_run(flags: &[bool], start: usize, len: usize) -> usize
     requires within { start < len }
     requires flagged { slice_index_or flags.now start false ≡ true }
-    ensures { IsRun flags.now start len result }
+    ensures { IsSpan flags.now start len result }
 {
     let mut end = start + 1;
     while end < len && is_flagged(flags, end) {

@@ -2,7 +2,7 @@
 use Rattle.std.specs.Prelude.{ℕ, Bool, true, false, List, ◌++◌, length, codes, decimal, count_by}
 use Rattle.vub_proto.specs.declared.used.Used.{Used}
 use Rattle.vub_model.specs.declared.label.Label.{Label}
-use Rattle.vub_model.specs.declared.label.Label.TheVariants.{Pass, Guest, Poll, Event, Sweep, Take, Serve, Put}
+use Rattle.vub_model.specs.declared.label.Label.TheVariants.{Pass, Guest, Control, Poll, Event, Sweep, Hear, Take, Serve, Put}
 use Rattle.vub_model.specs.declared.records.Take as records
 use Rattle.vub_model.specs.declared.records.Stop.{Stop}
 use Rattle.vub_model.specs.declared.records.Count.{Count}
@@ -13,9 +13,11 @@ use Rattle.vub_text.specs.Words.{hex_text, yes_no, cause_text}
 abbrev pub is_played : Label → Bool
 is_played Pass = false
 is_played Guest = true
+is_played (Control s) = true
 is_played (Poll o) = true
 is_played Event = true
 is_played Sweep = true
+is_played Hear = true
 is_played Take = true
 is_played Serve = true
 is_played Put = true

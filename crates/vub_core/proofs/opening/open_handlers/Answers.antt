@@ -1,7 +1,7 @@
 use Rattle.std.proofs.Common.{◌≡◌, length, ap, ◌∙◌, arith}
 use Rattle.vub_loop.specs.Handler.{new_handler}
 use Rattle.vub_model.specs.Opening.{opened_worker}
-use Rattle.vub_core.proofs.NewRings.{made_next}
+use Rattle.vub_open.proofs.NewRings.{made_next}
 use Rattle.vub_core.proofs.OpenedWorkers.{workers_made, phases_made}
 use Rattle.vub_core.proofs.opening.open_handlers.Goals as goal
 

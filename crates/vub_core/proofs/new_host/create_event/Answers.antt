@@ -1,7 +1,0 @@
-use Rattle.std.proofs.Common.{Err, ap}
-use Rattle.vub_core.proofs.HostCauses.{only-memory}
-use Rattle.vub_core.proofs.NewEvents.{cut_flags}
-use Rattle.vub_core.proofs.new_host.create_event.Goals as goal
-
-pub only_memory-requires : goal.only_memory-requires
-only_memory-requires c = only-memory _ c.in-Err.fault (cut_flags c.args.flags) c.in-Err.ensures.table.0 (λ same. c.in-Err.ensures.faults.sound c.requires (ap (λ e. Err e) same))

@@ -1,6 +1,0 @@
-use Rattle.std.proofs.Common.{◌≡◌, ◌≤◌}
-use Rattle.vub_model.specs.Wiring.{number_in}
-use Rattle.vub_core.proofs.places.number_in.Given as goal
-
-abbrev pub invariant-loop-other : goal.invariant-loop-other
-invariant-loop-other l = (l.number ≡ number_in l.mask l.other) × (l.number ≤ l.other)

@@ -1,0 +1,14 @@
+pub mod Claims
+pub mod ContentsFrom
+pub mod HostCauses
+pub mod HostTakes
+pub mod MaskBits
+pub mod NewEvents
+pub mod NewLists
+pub mod NewRings
+pub mod Numbered
+pub mod OpenedFor
+pub mod Placing
+pub mod Rings
+pub mod TableGiven
+pub mod ValidParts

@@ -1,0 +1,6 @@
+use Rattle.std.proofs.Common.{Err, refl, ap}
+use Rattle.vub_open.proofs.HostCauses.{only-memory}
+use Rattle.vub_open.proofs.new_host.create_list.Goals as goal
+
+pub only_memory-requires : goal.only_memory-requires
+only_memory-requires c = only-memory _ c.in-Err.fault refl c.in-Err.ensures.table.0 (λ same. c.in-Err.ensures.faults.sound c.requires (ap (λ e. Err e) same))

@@ -1,0 +1,4 @@
+pub mod Asked
+pub mod Hosts
+pub mod Opened
+pub mod Refused
