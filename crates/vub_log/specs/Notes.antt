@@ -1,6 +1,6 @@
 -- A shared log by what its parties note of it: their marks, their loads and, of one party, the harvests.
--- A word of the log is a number of 64 bits. Its low 32 bits are those of its pages, page p as bit p % 32, and its high 32
--- bits are its generation.
+-- A word of the log is a number of 64 bits. Its low 32 bits are those of its pages, page p as bit p % 32, and its high
+-- 32 bits are its generation.
 use Rattle.std.specs.Prelude.{◌≡◌, ◌⊎◌, ℕ, ◌*◌, ◌/◌, ◌%◌, ◌^◌, ◌<◌, ◌==◌, if◌then◌else◌, Bool, true, false, List, [], ◌∷◌, ◌++◌, length, slice_index}
 use Rattle.std.specs.Int.{bit_at}
 use Rattle.atomic_table.specs.Seated.{TableId}
@@ -86,8 +86,8 @@ IsHarvested word harvests m = m.page / 32 ≡ word → (m.generation < length ha
 abbrev pub NotesMark : Party → ℕ → Party → Type 0
 NotesMark old page new = (generation : ℕ) × (new ≡ record old { notes = with_mark old.notes (mark_note page generation) })
 
--- A load of a byte: the party notes its word's bits and generation, and the byte is that of these bits. Each mark that the
--- party had noted is shown by these bits, or was harvested
+-- A load of a byte: the party notes its word's bits and generation, and the byte is that of these bits. Each mark that
+-- the party had noted in this word is shown by these bits, or is of an earlier generation, so it was harvested
 abbrev pub NotesLoad : Party → ℕ → ℕ → Party → Type 0
 NotesLoad old byte read new =
     (bits : ℕ) × (generation : ℕ) × (new ≡ record old { notes = with_load old.notes (load_note (byte / 4) bits generation) })

@@ -69,7 +69,8 @@ abbrev pub TellsLoad : Step ℕ → Me ℕ Notes → ℕ → Me ℕ Notes → Ty
 TellsLoad st me n new =
     (new.0 ≡ with_load me.0 (load_note st.word (bits_of n) (generation_of n))) × Each (IsShownBy st.word (bits_of n) (generation_of n)) me.0.marks × (new.1 ≡ me.1)
 
--- the keeper notes the bits of the word as it was found, and each of its marks in the word is in the harvest of its number
+-- the keeper notes the bits of the word as it was found, and each of its marks in the word is in the harvest of its
+-- number
 abbrev pub TellsHarvest : Step ℕ → Me ℕ Notes → ℕ → Me ℕ Notes → Type 0
 TellsHarvest st me n new =
     (new.0 ≡ with_harvest me.0 (harvest_note st.word (bits_of n)))

@@ -20,8 +20,8 @@ pub fn bytes_hold_the_bits()
     ensures { HasBits }
 {}
 
-/// Law: after any steps on a shared log, in any order, a mark holds exactly where some party noted it: in its word, or in
-/// the harvest of its number. So no mark is lost, and no bit stands or was harvested but by a mark of its page. Each
+/// Law: after any steps on a shared log, in any order, a mark holds exactly where some party noted it: in its word, or
+/// in the harvest of its number. So no mark is lost, and no bit stands or was harvested but by a mark of its page. Each
 /// load showed such bits alone. Each word's generation is the number of its harvests.
 pub fn notes_hold()
     ensures marks { HoldWhereNoted }

@@ -1,5 +1,5 @@
-//! Logs of dirty pages: a plain one, of one owner, and a shared one on atomic words, which threads mark and one harvests
-//! at once.
+//! Logs of dirty pages: a plain one, of one owner, and a shared one on atomic words, which threads mark and one
+//! harvests at once.
 #![tactic(auto)]
 
 mod harvester;
