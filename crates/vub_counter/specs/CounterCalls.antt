@@ -7,7 +7,8 @@ use Rattle.vub_event.specs.HostCalls.{Meets, Done, consume_refusal, consume_afte
 -- a new event object with these flags, whose number is read by `number`
 abbrev pub MakesEvent : {T : Type 0} → (T → ℕ) → ℕ → Result T HostError → HostTable → HostTable → Type 0
 MakesEvent number flags result old =
-    Meets (flags_refusal flags) (λ made. IsNextNumber old.objects (number made)) (create_event_after old flags) result old
+    Meets (flags_refusal flags) (λ made. IsNextNumber old.objects (number made)) (create_event_after old flags) result
+    old
 
 -- a read of a counter that does not answer the count
 abbrev pub ReadsCounter : {T : Type 0} → ℕ → Result T HostError → HostTable → HostTable → Type 0

@@ -1,6 +1,7 @@
 -- A queue of messages, after a socket that carries bytes and objects, unix(7). Each message has some bytes and some
 -- objects; a receive takes one whole message, and bytes for which there is no room are lost.
-use Rattle.std.specs.Prelude.{ℕ, ◌≡◌, ◌≤◌, ◌<◌, ◌++◌, List, [], ◌∷◌, length, take, drop, min, Option, Result, Ok, Err, slice_get}
+use Rattle.std.specs.Prelude.{ℕ, ◌≡◌, ◌≤◌, ◌<◌, ◌++◌, List, [], ◌∷◌, length, take, drop, min, Option, Result, Ok, Err}
+use Rattle.std.specs.Prelude.{slice_get}
 use Rattle.std.specs.declared.vec.Vec.{Vec}
 use Rattle.std.specs.declared.alloc.Global.{Global}
 use Rattle.vub_event.specs.declared.error.HostError.{HostError}
@@ -25,7 +26,8 @@ joined (buf ∷ bufs) = buf.items ++ joined bufs
 
 -- a receive into a buffer of bytes and a room for objects, each before and after: it takes the first message. Without
 -- one it is WouldBlock, and with more objects than there is room for ENOBUFS
-abbrev pub Receives : List Message → List ℕ → List ℕ → Result (ℕ × ℕ) HostError → List Message → List ℕ → List ℕ → Type 0
+abbrev pub Receives :
+    List Message → List ℕ → List ℕ → Result (ℕ × ℕ) HostError → List Message → List ℕ → List ℕ → Type 0
 Receives [] buf room (Ok got) queue buf' room' = ⊥
 Receives [] buf room (Err e) queue buf' room' = (e ≡ WouldBlock) × (queue ≡ []) × (buf' ≡ buf) × (room' ≡ room)
 Receives (m ∷ rest) buf room (Ok got) queue buf' room' =

@@ -1,6 +1,7 @@
 -- A timer, after timerfd_create(2): the next moment at which it expires and the interval after it, in nanoseconds. An
 -- interval of 0 is none.
-use Rattle.std.specs.Prelude.{ℕ, ◌+◌, ◌-◌, ◌/◌, ◌%◌, ◌≡◌, ◌≤◌, ◌<◌, ◌^◌, ◌==◌, ◌||◌, Bool, false, not, if◌then◌else◌, nat_lt, min, Option, Some, None}
+use Rattle.std.specs.Prelude.{ℕ, ◌+◌, ◌-◌, ◌/◌, ◌%◌, ◌≡◌, ◌≤◌, ◌<◌, ◌^◌, ◌==◌, ◌||◌, Bool, false, not, if◌then◌else◌}
+use Rattle.std.specs.Prelude.{nat_lt, min, Option, Some, None}
 use Rattle.std.specs.Duration.{as_nanos, max_nanos}
 use Rattle.std.specs.declared.time.Duration.{Duration}
 use Rattle.vub_counter.specs.declared.timer.Armed.{Armed}
@@ -41,4 +42,5 @@ is_armed (Some timer) now = nat_lt now timer.next || not (timer.interval == 0)
 
 -- each expiry is counted once: what a wait counts and what a later one counts is what the later one alone would
 abbrev pub CountsOnce : Option Armed → Type 0
-CountsOnce timer = (now later : ℕ) → now ≤ later → expiries timer now + expiries (after_wait timer now) later ≡ expiries timer later
+CountsOnce timer =
+    (now later : ℕ) → now ≤ later → expiries timer now + expiries (after_wait timer now) later ≡ expiries timer later

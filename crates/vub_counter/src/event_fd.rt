@@ -31,9 +31,11 @@ impl EventFd {
     /// # Errors
     /// As [`Host::create_event`].
     pub fn new<H: Host>(alloc: Global, host: &mut H, flags: i32) -> Result<EventFd, HostError>
-        ensures faults { CountsFaults (H.fault_count host.old) (H.fault_count host.new) (H.never_fails host.old) (H.never_fails host.new) result }
+        ensures faults { CountsFaults (H.fault_count host.old) (H.fault_count host.new) (H.never_fails host.old)
+            (H.never_fails host.new) result }
         ensures refusals { RefusesBy result (HostError.Failed ∷ HostError.EINVAL ∷ HostError.OutOfMemory ∷ []) }
-        ensures table { Told (H.held host.old) (H.held host.new) (MakesEvent (λ fd. fd) (cast_unsigned w32 flags) result) }
+        ensures table { Told (H.held host.old) (H.held host.new)
+            (MakesEvent (λ fd. fd) (cast_unsigned w32 flags) result) }
     {
         let object = host.create_event(alloc, flags.cast_unsigned())?;
         Ok(EventFd { object })
@@ -44,8 +46,10 @@ impl EventFd {
     /// # Errors
     /// As [`Host::signal`]. A full counter is WouldBlock, whatever the flags.
     pub fn write<H: Host>(&self, host: &mut H, v: u64) -> Result<(), HostError>
-        ensures faults { CountsFaults (H.fault_count host.old) (H.fault_count host.new) (H.never_fails host.old) (H.never_fails host.new) result }
-        ensures refusals { RefusesBy result (HostError.Failed ∷ HostError.WouldBlock ∷ HostError.EINVAL ∷ HostError.EBADF ∷ []) }
+        ensures faults { CountsFaults (H.fault_count host.old) (H.fault_count host.new) (H.never_fails host.old)
+            (H.never_fails host.new) result }
+        ensures refusals { RefusesBy result
+            (HostError.Failed ∷ HostError.WouldBlock ∷ HostError.EINVAL ∷ HostError.EBADF ∷ []) }
         ensures table { Told (H.held host.old) (H.held host.new) (SignalCall self.now v result) }
     {
         host.signal(self.object, v)
@@ -56,7 +60,8 @@ impl EventFd {
     /// # Errors
     /// As [`Host::consume`]. A count of 0 is WouldBlock, whatever the flags.
     pub fn read<H: Host>(&self, host: &mut H) -> Result<u64, HostError>
-        ensures faults { CountsFaults (H.fault_count host.old) (H.fault_count host.new) (H.never_fails host.old) (H.never_fails host.new) result }
+        ensures faults { CountsFaults (H.fault_count host.old) (H.fault_count host.new) (H.never_fails host.old)
+            (H.never_fails host.new) result }
         ensures refusals { RefusesBy result (HostError.Failed ∷ HostError.WouldBlock ∷ HostError.EBADF ∷ []) }
         ensures table { Told (H.held host.old) (H.held host.new) (ConsumeCall self.now result) }
     {

@@ -46,8 +46,10 @@ impl EventNotifier {
     /// # Errors
     /// As [`Host::signal`].
     pub fn notify<H: Host>(&self, host: &mut H) -> Result<(), HostError>
-        ensures faults { CountsFaults (H.fault_count host.old) (H.fault_count host.new) (H.never_fails host.old) (H.never_fails host.new) result }
-        ensures refusals { RefusesBy result (HostError.Failed ∷ HostError.WouldBlock ∷ HostError.EINVAL ∷ HostError.EBADF ∷ []) }
+        ensures faults { CountsFaults (H.fault_count host.old) (H.fault_count host.new) (H.never_fails host.old)
+            (H.never_fails host.new) result }
+        ensures refusals { RefusesBy result
+            (HostError.Failed ∷ HostError.WouldBlock ∷ HostError.EINVAL ∷ HostError.EBADF ∷ []) }
         ensures table { Told (H.held host.old) (H.held host.new) (SignalCall self.now 1 result) }
     {
         host.signal(self.object, 1)
@@ -83,7 +85,8 @@ impl EventConsumer {
     /// # Errors
     /// As [`Host::consume`].
     pub fn consume<H: Host>(&self, host: &mut H) -> Result<(), HostError>
-        ensures faults { CountsFaults (H.fault_count host.old) (H.fault_count host.new) (H.never_fails host.old) (H.never_fails host.new) result }
+        ensures faults { CountsFaults (H.fault_count host.old) (H.fault_count host.new) (H.never_fails host.old)
+            (H.never_fails host.new) result }
         ensures refusals { RefusesBy result (HostError.Failed ∷ HostError.WouldBlock ∷ HostError.EBADF ∷ []) }
         ensures table { Told (H.held host.old) (H.held host.new) (ReadsCounter self.now result) }
     {
@@ -124,7 +127,8 @@ pub fn new_event_consumer_and_notifier<H: Host>(
     host: &mut H,
     flags: EventFlag,
 ) -> Result<(EventConsumer, EventNotifier), HostError>
-    ensures faults { CountsFaults (H.fault_count host.old) (H.fault_count host.new) (H.never_fails host.old) (H.never_fails host.new) result }
+    ensures faults { CountsFaults (H.fault_count host.old) (H.fault_count host.new) (H.never_fails host.old)
+        (H.never_fails host.new) result }
     ensures refusals { RefusesBy result (HostError.Failed ∷ HostError.EINVAL ∷ HostError.OutOfMemory ∷ []) }
     ensures same { IfOk result (λ ends. ends.0 ≡ ends.1) }
     ensures table { Told (H.held host.old) (H.held host.new) (MakesEvent (λ ends. ends.0) (made_flags flags.0) result) }

@@ -73,11 +73,12 @@ pub trait ScmSocket: Drop {
     ) -> Result<usize, HostError>
         ensures refusals { RefusesBy result (HostError.OutOfMemory ∷ []) }
         ensures host { host.new ≡ host.old }
-        ensures sent { IfOk result (λ n. (n ≡ length (D.bytes_of buf)) × (queue self.new ≡ queue self.old ++ record { bytes = D.bytes_of buf; objects = object ∷ [] } ∷ [])) }
+        ensures sent { IfOk result (λ n. (n ≡ length (D.bytes_of buf))
+            × (queue self.new ≡ queue self.old ++ record { bytes = D.bytes_of buf; objects = object ∷ [] } ∷ [])) }
         ensures err { OnErr result (queue self.new ≡ queue self.old) };
 
-    /// Sends the bytes of these buffers, one after the other, with these objects, and answers the number of the bytes. The
-    /// host isn't asked.
+    /// Sends the bytes of these buffers, one after the other, with these objects, and answers the number of the bytes.
+    /// The host isn't asked.
     ///
     /// # Errors
     /// Want of memory leaves the queue as it was.
@@ -90,7 +91,8 @@ pub trait ScmSocket: Drop {
     ) -> Result<usize, HostError>
         ensures refusals { RefusesBy result (HostError.OutOfMemory ∷ []) }
         ensures host { host.new ≡ host.old }
-        ensures sent { IfOk result (λ n. (n ≡ length (joined bufs.now)) × (queue self.new ≡ queue self.old ++ record { bytes = joined bufs.now; objects = objects.now } ∷ [])) }
+        ensures sent { IfOk result (λ n. (n ≡ length (joined bufs.now))
+            × (queue self.new ≡ queue self.old ++ record { bytes = joined bufs.now; objects = objects.now } ∷ [])) }
         ensures err { OnErr result (queue self.new ≡ queue self.old) };
 
     /// Receives the first message, which may have one object. Bytes past the buffer are lost.
@@ -105,7 +107,8 @@ pub trait ScmSocket: Drop {
         ensures received { ReceivesOne (queue self.old) buf.old result (queue self.new) buf.new }
         ensures faults { H.fault_count host.new ≡ H.fault_count host.old }
         ensures still { H.never_fails host.old → H.never_fails host.new }
-        ensures table { Told (H.held host.old) (H.held host.new) (λ old new. new ≡ receive_after (queue self.old) result old) };
+        ensures table { Told (H.held host.old) (H.held host.new)
+            (λ old new. new ≡ receive_after (queue self.old) result old) };
 
     /// Receives the first message, and answers the numbers of its bytes and of its objects. Bytes past the buffer are
     /// lost.
@@ -122,7 +125,8 @@ pub trait ScmSocket: Drop {
         ensures received { Receives (queue self.old) buf.old objects.old result (queue self.new) buf.new objects.new }
         ensures faults { H.fault_count host.new ≡ H.fault_count host.old }
         ensures still { H.never_fails host.old → H.never_fails host.new }
-        ensures table { Told (H.held host.old) (H.held host.new) (λ old new. new ≡ receive_after (queue self.old) result old) };
+        ensures table { Told (H.held host.old) (H.held host.new)
+            (λ old new. new ≡ receive_after (queue self.old) result old) };
 }
 
 /// A socket in memory: what is sent stands in its own queue until it is received. A contract sees the queue.
@@ -153,7 +157,8 @@ impl MemSocket {
     /// Puts a message at the end of the queue.
     fn send(&mut self, bytes: Bytes, objects: Listed<u32>) -> Result<usize, HostError>
         ensures refusals { RefusesBy result (HostError.OutOfMemory ∷ []) }
-        ensures sent { IfOk result (λ n. (n ≡ length bytes) × (self.new ≡ self.old ++ record { bytes = bytes; objects = objects } ∷ [])) }
+        ensures sent { IfOk result (λ n. (n ≡ length bytes)
+            × (self.new ≡ self.old ++ record { bytes = bytes; objects = objects } ∷ [])) }
         ensures err { OnErr result (self.new ≡ self.old) }
     {
         let count = bytes.len();

@@ -48,8 +48,8 @@ impl TimerFd {
         TimerFd { armed: None }
     }
 
-    /// Sets the timer at the moment `now`: it expires after `dur`, and then after every `interval`. A `dur` of 0 disarms it,
-    /// and an `interval` of 0 is none. Expiries that were not waited for are dropped.
+    /// Sets the timer at the moment `now`: it expires after `dur`, and then after every `interval`. A `dur` of 0
+    /// disarms it, and an `interval` of 0 is none. Expiries that were not waited for are dropped.
     pub fn reset(&mut self, now: Duration, dur: Duration, interval: Option<Duration>)
         ensures { self.new ≡ set_timer (as_nanos now) (as_nanos dur) (interval_of interval) }
     {
@@ -72,7 +72,8 @@ impl TimerFd {
     /// WouldBlock where it has not.
     #[tactic(auto, using(crate::proofs::Timing::once_law))]
     pub fn wait(&mut self, now: Duration) -> Result<u64, HostError>
-        ensures count { MatchResult result (λ n. (n ≡ min (expiries self.old (as_nanos now)) (2 ^ 64 - 1)) × (0 < n)) (λ e. (e ≡ HostError.WouldBlock) × (expiries self.old (as_nanos now) ≡ 0)) }
+        ensures count { MatchResult result (λ n. (n ≡ min (expiries self.old (as_nanos now)) (2 ^ 64 - 1)) × (0 < n))
+            (λ e. (e ≡ HostError.WouldBlock) × (expiries self.old (as_nanos now) ≡ 0)) }
         ensures after { self.new ≡ after_wait self.old (as_nanos now) }
         ensures once { CountsOnce self.old }
     {

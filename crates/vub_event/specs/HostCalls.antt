@@ -1,6 +1,7 @@
 -- The calls of a host as functions of its table: for each call the refusal that is due, what is answered, and the
 -- table that is left. A refused call changes nothing.
-use Rattle.std.specs.Prelude.{ℕ, ◌≡◌, ◌==◌, ◌&&◌, ◌||◌, Bool, true, false, not, if◌then◌else◌, nat_lt, List, [], ◌∷◌, ◌++◌, take, map, Option, Some, None, is_some, Result, Ok, Err, Contains, slice_get}
+use Rattle.std.specs.Prelude.{ℕ, ◌≡◌, ◌==◌, ◌&&◌, ◌||◌, Bool, true, false, not, if◌then◌else◌, nat_lt, List, [], ◌∷◌}
+use Rattle.std.specs.Prelude.{◌++◌, take, map, Option, Some, None, is_some, Result, Ok, Err, Contains, slice_get}
 use Rattle.std.specs.Int.RustNames.{bit_and, bit_or}
 use Rattle.vub_event.specs.declared.error.HostError.{HostError}
 use Rattle.vub_event.specs.declared.error.HostError.TheVariants.{EINVAL, EEXIST, ENOENT, EBADF, Held}
@@ -12,7 +13,8 @@ use Rattle.std.specs.declared.vec.Vec.{Vec}
 use Rattle.std.specs.declared.alloc.Global.{Global}
 use Rattle.vub_event.specs.Counter.{write_refusal, written, read_refusal, read_value, after_read}
 use Rattle.vub_event.specs.Errors.{IsDue}
-use Rattle.vub_event.specs.HostTable.{HostTable, IsNextNumber, event_at, has_event, has_list, members_at, member_at, is_listed, with_event, with_members, ready_members, IsLeastOf}
+use Rattle.vub_event.specs.HostTable.{HostTable, IsNextNumber, event_at, has_event, has_list, members_at, member_at}
+use Rattle.vub_event.specs.HostTable.{is_listed, with_event, with_members, ready_members, IsLeastOf}
 use Rattle.vub_event.specs.InterestList.{with_member, with_changed, without_member}
 
 -- A call for which this refusal is due, which else answers by `Said` and leaves this table: it succeeds only where
@@ -137,7 +139,8 @@ unfoldable pub delete_after : HostTable → ℕ → ℕ → HostTable
 delete_after table list object = with_members table list (without_member (members_at table list) object)
 
 abbrev pub DeleteCall : {T : Type 0} → ℕ → ℕ → Result T HostError → HostTable → HostTable → Type 0
-DeleteCall list object result old = Meets (delete_refusal old list object) Done (delete_after old list object) result old
+DeleteCall list object result old =
+    Meets (delete_refusal old list object) Done (delete_after old list object) result old
 
 -- listen: a member with IN alone, for an object that no queue claims
 abbrev pub listener : ℕ → ℕ → Member

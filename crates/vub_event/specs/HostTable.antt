@@ -1,7 +1,8 @@
 -- The host table (this project's own), after Linux's eventfd(2) and epoll(7): event objects by number, and interest
 -- lists by number. A number is never given twice. Each look-up is total: an object that was never made is as one
 -- that is closed, and a list that was never made has no members.
-use Rattle.std.specs.Prelude.{ℕ, ◌≡◌, ◌<◌, ◌≤◌, Contains, Bool, List, [], length, nat_lt, Option, Some, None, is_some, if◌then◌else◌, ◌==◌, slice_index_or, slice_set}
+use Rattle.std.specs.Prelude.{ℕ, ◌≡◌, ◌<◌, ◌≤◌, Contains, Bool, List, [], length, nat_lt, Option, Some, None, is_some}
+use Rattle.std.specs.Prelude.{if◌then◌else◌, ◌==◌, slice_index_or, slice_set}
 use Rattle.std.specs.List.{filter_map, list_any}
 use Rattle.vub_event.specs.declared.event.Event.{Event}
 use Rattle.vub_event.specs.declared.member.Member.{Member}

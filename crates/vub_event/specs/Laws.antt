@@ -1,5 +1,6 @@
 -- Laws of a host that tells its table, for a few calls one after the other: what is answered, and which table is left.
-use Rattle.std.specs.Prelude.{ℕ, ◌+◌, ◌-◌, ◌≡◌, ◌<◌, ◌⊎◌, List, [], ◌∷◌, take, true, false, is_some, if◌then◌else◌, Option, Some, None, Result, Ok, Err, MatchOption}
+use Rattle.std.specs.Prelude.{ℕ, ◌+◌, ◌-◌, ◌≡◌, ◌<◌, ◌⊎◌, List, [], ◌∷◌, take, true, false, is_some, if◌then◌else◌}
+use Rattle.std.specs.Prelude.{Option, Some, None, Result, Ok, Err, MatchOption}
 use Rattle.vub_event.specs.declared.error.HostError.{HostError}
 use Rattle.vub_event.specs.declared.error.HostError.TheVariants.{WouldBlock, EINVAL, EEXIST, EBADF, Failed}
 use Rattle.vub_event.specs.declared.event.Event.{Event}
@@ -31,9 +32,10 @@ abbrev pub AddsAndDeletes : {T : Type 0} → ℕ → Member → Result T HostErr
 AddsAndDeletes list new (Ok x) old now = (add_refusal old list new ≡ None) × (now ≡ old)
 AddsAndDeletes list new (Err e) old now = Stops (add_refusal old list new) (add_after old list new) None e old now
 
--- add twice: where the first is accepted, the second is due EEXIST and adds nothing; where the first is refused, that is
--- the answer
-abbrev pub AddsTwice : {T : Type 0} → ℕ → Member → Result (Result T HostError) HostError → HostTable → HostTable → Type 0
+-- add twice: where the first is accepted, the second is due EEXIST and adds nothing; where the first is refused, that
+-- is the answer
+abbrev pub AddsTwice :
+    {T : Type 0} → ℕ → Member → Result (Result T HostError) HostError → HostTable → HostTable → Type 0
 AddsTwice list new (Ok second) old now =
     (add_refusal old list new ≡ None) × IsRefusedAs EEXIST second × (now ≡ add_after old list new)
 AddsTwice list new (Err e) old now = IsDue (add_refusal old list new) e × (now ≡ old)
@@ -43,7 +45,8 @@ AddsTwice list new (Err e) old now = IsDue (add_refusal old list new) e × (now 
 pub record ReadsSum (object sum read : ℕ) (event : Event) (old now : HostTable) : Type 0 where
   pub above : 0 < sum
   pub counter : event.semaphore ≡ false → (read ≡ sum) × (now ≡ with_event old object (Some record event { count = 0 }))
-  pub semaphore : event.semaphore ≡ true → (read ≡ 1) × (now ≡ with_event old object (Some record event { count = sum - 1 }))
+  pub semaphore :
+      event.semaphore ≡ true → (read ≡ 1) × (now ≡ with_event old object (Some record event { count = sum - 1 }))
 
 -- a write, and then a read: both are done only where the write is accepted, and the read is of the count before and the
 -- value
@@ -53,7 +56,8 @@ WritesAndReads object value (Ok read) old now =
     (λ event. (write_refusal event value ≡ None) × ReadsSum object (event.count + value) read event old now)
 WritesAndReads object value (Err e) old now =
     MatchOption (event_at old object) (IsDueOrFault (Some EBADF) e × (now ≡ old))
-    (λ event. Stops (write_refusal event value) (with_event old object (Some (written event value))) (read_refusal (written event value)) e old now)
+    (λ event. Stops (write_refusal event value) (with_event old object (Some (written event value)))
+    (read_refusal (written event value)) e old now)
 
 -- what is accepted of a write, and a counter after it: a refused one adds nothing
 abbrev pub accepted_value : Event → ℕ → ℕ
@@ -85,12 +89,13 @@ abbrev pub WritesOne : {T : Type 0} → ℕ → ℕ → Result T HostError → H
 WritesOne object value (Ok x) old now = now ≡ writes_after old object (value ∷ [])
 WritesOne object value (Err e) old now = IsDueOrFault (due_of (λ event. None) (event_at old object)) e × (now ≡ old)
 
--- several writes, of which refused ones are passed over, and then a read: the read is of the count before and the sum of
--- the accepted writes. A fault ends it, and leaves what the writes before it made
+-- several writes, of which refused ones are passed over, and then a read: the read is of the count before and the sum
+-- of the accepted writes. A fault ends it, and leaves what the writes before it made
 abbrev pub WritesAllAndReads : ℕ → List ℕ → Result ℕ HostError → HostTable → HostTable → Type 0
 WritesAllAndReads object values (Ok read) old now =
     MatchOption (event_at old object) ⊥
     (λ event. ReadsSum object (event.count + accepted_sum event values) read event old now)
 WritesAllAndReads object values (Err e) old now =
     MatchOption (event_at old object) (IsDueOrFault (Some EBADF) e × (now ≡ old))
-    (λ event. IsDueOrFault (read_refusal (after_writes event values)) e × ((made : ℕ) × (now ≡ writes_after old object (take made values))))
+    (λ event. IsDueOrFault (read_refusal (after_writes event values)) e
+    × ((made : ℕ) × (now ≡ writes_after old object (take made values))))

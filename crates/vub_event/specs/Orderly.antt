@@ -28,7 +28,8 @@ IsByObject (r ∷ rs) = AllByRecursion (λ s. r.object < s.object) rs × IsByObj
 
 -- the first reports of a list of an orderly table, which ready_many answers, stand in order of their objects
 abbrev pub ReportsByObject : Type 0
-ReportsByObject = (table : HostTable) (list most : ℕ) → IsOrderly table → IsByObject (take most (ready_members table list))
+ReportsByObject =
+    (table : HostTable) (list most : ℕ) → IsOrderly table → IsByObject (take most (ready_members table list))
 
 -- a list is in order in one way alone
 AllAbove-prop : (object : ℕ) (ms : List Member) → IsProp (AllAbove object ms)

@@ -1,5 +1,6 @@
 -- Where a member stands in a list in order, or where it would go.
-use Rattle.std.specs.Prelude.{ℕ, ◌+◌, ◌<◌, ◌≤◌, ◌≡◌, List, [], ◌∷◌, ◌++◌, length, take, drop, Result, MatchResult, slice_index_or}
+use Rattle.std.specs.Prelude.{ℕ, ◌+◌, ◌<◌, ◌≤◌, ◌≡◌, List, [], ◌∷◌, ◌++◌, length, take, drop, Result, MatchResult}
+use Rattle.std.specs.Prelude.{slice_index_or}
 use Rattle.vub_event.specs.declared.member.Member.{Member}
 use Rattle.vub_event.specs.InterestList.{AllAbove}
 
@@ -25,4 +26,5 @@ pub record GoesAt (members : List Member) (object i : ℕ) : Type 0 where
 
 abbrev pub MeetsAt : List Member → ℕ → Result ℕ ℕ → Type 0
 MeetsAt members object result =
-    MatchResult result (λ i. (i < length members) × IsAt members object i) (λ i. (i ≤ length members) × GoesAt members object i)
+    MatchResult result (λ i. (i < length members) × IsAt members object i)
+    (λ i. (i ≤ length members) × GoesAt members object i)

@@ -38,7 +38,8 @@ const FLAGS: u32 = 0x8_0801;
 /// # Errors
 /// [`HostError::OutOfMemory`] exactly where all numbers are given.
 fn next_number(made: usize) -> Result<u32, HostError>
-    ensures { MatchResult result (λ number. (number ≡ made) × (number < 4294967295)) (λ e. (e ≡ HostError.OutOfMemory) × (4294967295 ≤ made)) }
+    ensures { MatchResult result (λ number. (number ≡ made) × (number < 4294967295))
+        (λ e. (e ≡ HostError.OutOfMemory) × (4294967295 ≤ made)) }
 {
     if made >= MOST {
         return Err(HostError::OutOfMemory);
@@ -205,7 +206,8 @@ impl EventTable {
     /// As [`Host::add`](crate::Host::add).
     #[tactic(auto, unfolding(crate::specs::HostCalls::add_refusal, crate::specs::HostCalls::add_after))]
     pub fn add(&mut self, list: u32, member: Member) -> Result<(), HostError>
-        ensures refusals { RefusesBy result (HostError.EINVAL ∷ HostError.EEXIST ∷ HostError.EBADF ∷ HostError.OutOfMemory ∷ []) }
+        ensures refusals { RefusesBy result
+            (HostError.EINVAL ∷ HostError.EEXIST ∷ HostError.EBADF ∷ HostError.OutOfMemory ∷ []) }
         ensures table { AddCall list member result self.old self.new }
     {
         if !self.has_both(list, member.object) {

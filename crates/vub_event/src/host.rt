@@ -42,7 +42,8 @@ pub trait Host: Drop {
     /// # Errors
     /// EINVAL for any other flag bit; want of memory, also where the numbers below 4294967295 are all given.
     fn create_event(&mut self, alloc: Global, flags: u32) -> Result<u32, HostError>
-        ensures faults { CountsFaults (fault_count self.old) (fault_count self.new) (never_fails self.old) (never_fails self.new) result }
+        ensures faults { CountsFaults (fault_count self.old) (fault_count self.new) (never_fails self.old)
+            (never_fails self.new) result }
         ensures refusals { RefusesBy result (HostError.Failed ∷ HostError.EINVAL ∷ HostError.OutOfMemory ∷ []) }
         ensures table { Told (held self.old) (held self.new) (CreateEventCall flags result) };
 
@@ -51,7 +52,8 @@ pub trait Host: Drop {
     /// # Errors
     /// Want of memory, also where the numbers below 4294967295 are all given.
     fn create_list(&mut self, alloc: Global) -> Result<u32, HostError>
-        ensures faults { CountsFaults (fault_count self.old) (fault_count self.new) (never_fails self.old) (never_fails self.new) result }
+        ensures faults { CountsFaults (fault_count self.old) (fault_count self.new) (never_fails self.old)
+            (never_fails self.new) result }
         ensures refusals { RefusesBy result (HostError.Failed ∷ HostError.OutOfMemory ∷ []) }
         ensures table { Told (held self.old) (held self.new) (CreateListCall result) };
 
@@ -60,8 +62,10 @@ pub trait Host: Drop {
     /// # Errors
     /// EBADF; EINVAL for `u64::MAX`; WouldBlock where the sum would pass `u64::MAX - 1`.
     fn signal(&mut self, object: u32, value: u64) -> Result<(), HostError>
-        ensures faults { CountsFaults (fault_count self.old) (fault_count self.new) (never_fails self.old) (never_fails self.new) result }
-        ensures refusals { RefusesBy result (HostError.Failed ∷ HostError.WouldBlock ∷ HostError.EINVAL ∷ HostError.EBADF ∷ []) }
+        ensures faults { CountsFaults (fault_count self.old) (fault_count self.new) (never_fails self.old)
+            (never_fails self.new) result }
+        ensures refusals { RefusesBy result
+            (HostError.Failed ∷ HostError.WouldBlock ∷ HostError.EINVAL ∷ HostError.EBADF ∷ []) }
         ensures table { Told (held self.old) (held self.new) (SignalCall object value result) };
 
     /// Reads the counter of this object: 1 of a semaphore, whose count falls by 1, else the count, which becomes 0.
@@ -69,7 +73,8 @@ pub trait Host: Drop {
     /// # Errors
     /// EBADF; WouldBlock at a count of 0.
     fn consume(&mut self, object: u32) -> Result<u64, HostError>
-        ensures faults { CountsFaults (fault_count self.old) (fault_count self.new) (never_fails self.old) (never_fails self.new) result }
+        ensures faults { CountsFaults (fault_count self.old) (fault_count self.new) (never_fails self.old)
+            (never_fails self.new) result }
         ensures refusals { RefusesBy result (HostError.Failed ∷ HostError.WouldBlock ∷ HostError.EBADF ∷ []) }
         ensures table { Told (held self.old) (held self.new) (ConsumeCall object result) };
 
@@ -85,8 +90,10 @@ pub trait Host: Drop {
         set: EventSet,
         token: u64,
     ) -> Result<(), HostError>
-        ensures faults { CountsFaults (fault_count self.old) (fault_count self.new) (never_fails self.old) (never_fails self.new) result }
-        ensures refusals { RefusesBy result (HostError.Failed ∷ HostError.EINVAL ∷ HostError.EEXIST ∷ HostError.EBADF ∷ HostError.OutOfMemory ∷ []) }
+        ensures faults { CountsFaults (fault_count self.old) (fault_count self.new) (never_fails self.old)
+            (never_fails self.new) result }
+        ensures refusals { RefusesBy result
+            (HostError.Failed ∷ HostError.EINVAL ∷ HostError.EEXIST ∷ HostError.EBADF ∷ HostError.OutOfMemory ∷ []) }
         ensures table { Told (held self.old) (held self.new) (AddCall list (member_for object set token) result) };
 
     /// Gives the member for this object another set and token.
@@ -94,8 +101,10 @@ pub trait Host: Drop {
     /// # Errors
     /// EBADF; EINVAL for any of the four upper bits of the set; ENOENT where it is no member.
     fn modify(&mut self, list: u32, object: u32, set: EventSet, token: u64) -> Result<(), HostError>
-        ensures faults { CountsFaults (fault_count self.old) (fault_count self.new) (never_fails self.old) (never_fails self.new) result }
-        ensures refusals { RefusesBy result (HostError.Failed ∷ HostError.EINVAL ∷ HostError.ENOENT ∷ HostError.EBADF ∷ []) }
+        ensures faults { CountsFaults (fault_count self.old) (fault_count self.new) (never_fails self.old)
+            (never_fails self.new) result }
+        ensures refusals { RefusesBy result
+            (HostError.Failed ∷ HostError.EINVAL ∷ HostError.ENOENT ∷ HostError.EBADF ∷ []) }
         ensures table { Told (held self.old) (held self.new) (ModifyCall list (member_for object set token) result) };
 
     /// Takes the object off the list.
@@ -103,7 +112,8 @@ pub trait Host: Drop {
     /// # Errors
     /// EBADF; ENOENT where it is no member.
     fn delete(&mut self, list: u32, object: u32) -> Result<(), HostError>
-        ensures faults { CountsFaults (fault_count self.old) (fault_count self.new) (never_fails self.old) (never_fails self.new) result }
+        ensures faults { CountsFaults (fault_count self.old) (fault_count self.new) (never_fails self.old)
+            (never_fails self.new) result }
         ensures refusals { RefusesBy result (HostError.Failed ∷ HostError.ENOENT ∷ HostError.EBADF ∷ []) }
         ensures table { Told (held self.old) (held self.new) (DeleteCall list object result) };
 
@@ -112,8 +122,10 @@ pub trait Host: Drop {
     /// # Errors
     /// EBADF; EEXIST where it is a member of this list or a queue claims it; want of memory.
     fn listen(&mut self, alloc: Global, list: u32, object: u32, token: u64) -> Result<(), HostError>
-        ensures faults { CountsFaults (fault_count self.old) (fault_count self.new) (never_fails self.old) (never_fails self.new) result }
-        ensures refusals { RefusesBy result (HostError.Failed ∷ HostError.EEXIST ∷ HostError.EBADF ∷ HostError.OutOfMemory ∷ []) }
+        ensures faults { CountsFaults (fault_count self.old) (fault_count self.new) (never_fails self.old)
+            (never_fails self.new) result }
+        ensures refusals { RefusesBy result
+            (HostError.Failed ∷ HostError.EEXIST ∷ HostError.EBADF ∷ HostError.OutOfMemory ∷ []) }
         ensures table { Told (held self.old) (held self.new) (ListenCall list object token result) };
 
     /// Takes a member whose token is greater than `above` off the list.
@@ -121,7 +133,8 @@ pub trait Host: Drop {
     /// # Errors
     /// EBADF; ENOENT unless it is a member of this list with such a token.
     fn unlisten(&mut self, list: u32, object: u32, above: u64) -> Result<(), HostError>
-        ensures faults { CountsFaults (fault_count self.old) (fault_count self.new) (never_fails self.old) (never_fails self.new) result }
+        ensures faults { CountsFaults (fault_count self.old) (fault_count self.new) (never_fails self.old)
+            (never_fails self.new) result }
         ensures refusals { RefusesBy result (HostError.Failed ∷ HostError.ENOENT ∷ HostError.EBADF ∷ []) }
         ensures table { Told (held self.old) (held self.new) (UnlistenCall list object above result) };
 
@@ -131,7 +144,8 @@ pub trait Host: Drop {
     /// # Errors
     /// EBADF for the list.
     fn consume_as(&mut self, list: u32, object: u32, token: u64) -> Result<bool, HostError>
-        ensures faults { CountsFaults (fault_count self.old) (fault_count self.new) (never_fails self.old) (never_fails self.new) result }
+        ensures faults { CountsFaults (fault_count self.old) (fault_count self.new) (never_fails self.old)
+            (never_fails self.new) result }
         ensures refusals { RefusesBy result (HostError.Failed ∷ HostError.EBADF ∷ []) }
         ensures table { Told (held self.old) (held self.new) (ConsumeAsCall list object token result) };
 
@@ -140,7 +154,8 @@ pub trait Host: Drop {
     /// # Errors
     /// EBADF for the list.
     fn ready(&mut self, list: u32) -> Result<Option<Ready>, HostError>
-        ensures faults { CountsFaults (fault_count self.old) (fault_count self.new) (never_fails self.old) (never_fails self.new) result }
+        ensures faults { CountsFaults (fault_count self.old) (fault_count self.new) (never_fails self.old)
+            (never_fails self.new) result }
         ensures refusals { RefusesBy result (HostError.Failed ∷ HostError.EBADF ∷ []) }
         ensures table { Told (held self.old) (held self.new) (ReadyCall list result) };
 
@@ -149,7 +164,8 @@ pub trait Host: Drop {
     /// # Errors
     /// EBADF for the list; want of memory.
     fn ready_many(&mut self, alloc: Global, list: u32, most: usize) -> Result<Vec<Ready>, HostError>
-        ensures faults { CountsFaults (fault_count self.old) (fault_count self.new) (never_fails self.old) (never_fails self.new) result }
+        ensures faults { CountsFaults (fault_count self.old) (fault_count self.new) (never_fails self.old)
+            (never_fails self.new) result }
         ensures refusals { RefusesBy result (HostError.Failed ∷ HostError.EBADF ∷ HostError.OutOfMemory ∷ []) }
         ensures table { Told (held self.old) (held self.new) (ReadyManyCall list most result) };
 
@@ -158,7 +174,8 @@ pub trait Host: Drop {
     /// # Errors
     /// EBADF; Held where another queue claims it, or where none does and it is a member of some list.
     fn claim(&mut self, object: u32, queue: u32) -> Result<(), HostError>
-        ensures faults { CountsFaults (fault_count self.old) (fault_count self.new) (never_fails self.old) (never_fails self.new) result }
+        ensures faults { CountsFaults (fault_count self.old) (fault_count self.new) (never_fails self.old)
+            (never_fails self.new) result }
         ensures refusals { RefusesBy result (HostError.Failed ∷ HostError.EBADF ∷ HostError.Held ∷ []) }
         ensures table { Told (held self.old) (held self.new) (ClaimCall object queue result) };
 

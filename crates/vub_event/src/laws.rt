@@ -26,9 +26,12 @@ pub fn add_then_delete<H: Host>(
     set: EventSet,
     token: u64,
 ) -> Result<(), HostError>
-    ensures faults { CountsFaults (H.fault_count host.old) (H.fault_count host.new) (H.never_fails host.old) (H.never_fails host.new) result }
-    ensures refusals { RefusesBy result (HostError.Failed ∷ HostError.EINVAL ∷ HostError.EEXIST ∷ HostError.ENOENT ∷ HostError.EBADF ∷ HostError.OutOfMemory ∷ []) }
-    ensures table { Told (H.held host.old) (H.held host.new) (AddsAndDeletes list (member_for object set token) result) }
+    ensures faults { CountsFaults (H.fault_count host.old) (H.fault_count host.new) (H.never_fails host.old)
+        (H.never_fails host.new) result }
+    ensures refusals { RefusesBy result (HostError.Failed ∷ HostError.EINVAL ∷ HostError.EEXIST ∷ HostError.ENOENT
+        ∷ HostError.EBADF ∷ HostError.OutOfMemory ∷ []) }
+    ensures table { Told (H.held host.old) (H.held host.new)
+        (AddsAndDeletes list (member_for object set token) result) }
 {
     host.add(alloc, list, object, set, token)?;
     host.delete(list, object)
@@ -47,9 +50,12 @@ pub fn add_twice<H: Host>(
     set: EventSet,
     token: u64,
 ) -> Result<Result<(), HostError>, HostError>
-    ensures faults { CountsFaults (H.fault_count host.old) (H.fault_count host.new) (H.never_fails host.old) (H.never_fails host.new) result }
-    ensures refusals { RefusesBy result (HostError.Failed ∷ HostError.EINVAL ∷ HostError.EEXIST ∷ HostError.EBADF ∷ HostError.OutOfMemory ∷ []) }
-    ensures second { IfOk result (λ second. CountsFaults (H.fault_count host.old) (H.fault_count host.new) (H.never_fails host.old) (H.never_fails host.new) second) }
+    ensures faults { CountsFaults (H.fault_count host.old) (H.fault_count host.new) (H.never_fails host.old)
+        (H.never_fails host.new) result }
+    ensures refusals { RefusesBy result (HostError.Failed ∷ HostError.EINVAL ∷ HostError.EEXIST ∷ HostError.EBADF
+        ∷ HostError.OutOfMemory ∷ []) }
+    ensures second { IfOk result (λ second. CountsFaults (H.fault_count host.old) (H.fault_count host.new)
+        (H.never_fails host.old) (H.never_fails host.new) second) }
     ensures table { Told (H.held host.old) (H.held host.new) (AddsTwice list (member_for object set token) result) }
 {
     host.add(alloc, list, object, set, token)?;
@@ -63,8 +69,10 @@ pub fn add_twice<H: Host>(
 /// Those of [`Host::signal`], with the table as it was; else those of [`Host::consume`], with the value added: a fault,
 /// or WouldBlock where the count before and the value are 0.
 pub fn write_then_read<H: Host>(host: &mut H, object: u32, value: u64) -> Result<u64, HostError>
-    ensures faults { CountsFaults (H.fault_count host.old) (H.fault_count host.new) (H.never_fails host.old) (H.never_fails host.new) result }
-    ensures refusals { RefusesBy result (HostError.Failed ∷ HostError.WouldBlock ∷ HostError.EINVAL ∷ HostError.EBADF ∷ []) }
+    ensures faults { CountsFaults (H.fault_count host.old) (H.fault_count host.new) (H.never_fails host.old)
+        (H.never_fails host.new) result }
+    ensures refusals { RefusesBy result (HostError.Failed ∷ HostError.WouldBlock ∷ HostError.EINVAL ∷ HostError.EBADF
+        ∷ []) }
     ensures table { Told (H.held host.old) (H.held host.new) (WritesAndReads object value result) }
 {
     host.signal(object, value)?;
@@ -84,7 +92,8 @@ fn passed_over(answer: Result<(), HostError>) -> Result<(), HostError>
 
 /// Writes this value to a counter, and passes over a write that the counter refuses.
 fn write_one<H: Host>(host: &mut H, object: u32, value: u64) -> Result<(), HostError>
-    ensures faults { CountsFaults (H.fault_count host.old) (H.fault_count host.new) (H.never_fails host.old) (H.never_fails host.new) result }
+    ensures faults { CountsFaults (H.fault_count host.old) (H.fault_count host.new) (H.never_fails host.old)
+        (H.never_fails host.new) result }
     ensures refusals { RefusesBy result (HostError.Failed ∷ HostError.EBADF ∷ []) }
     ensures table { Told (H.held host.old) (H.held host.new) (WritesOne object value result) }
 {
@@ -92,8 +101,9 @@ fn write_one<H: Host>(host: &mut H, object: u32, value: u64) -> Result<(), HostE
     passed_over(answer)
 }
 
-/// Writes these values to a counter, one after the other, and reads it. A write that the counter refuses is passed over.
-/// The read of a counter that is no semaphore gives the count before and the sum of the accepted writes, and leaves 0.
+/// Writes these values to a counter, one after the other, and reads it. A write that the counter refuses is passed
+/// over. The read of a counter that is no semaphore gives the count before and the sum of the accepted writes, and
+/// leaves 0.
 ///
 /// # Errors
 /// EBADF where there is no such object; WouldBlock where the count before and all accepted writes are 0; a fault of the
@@ -103,7 +113,8 @@ pub fn writes_then_read<H: Host>(
     object: u32,
     values: &[u64],
 ) -> Result<u64, HostError>
-    ensures faults { CountsFaults (H.fault_count host.old) (H.fault_count host.new) (H.never_fails host.old) (H.never_fails host.new) result }
+    ensures faults { CountsFaults (H.fault_count host.old) (H.fault_count host.new) (H.never_fails host.old)
+        (H.never_fails host.new) result }
     ensures refusals { RefusesBy result (HostError.Failed ∷ HostError.WouldBlock ∷ HostError.EBADF ∷ []) }
     ensures table { Told (H.held host.old) (H.held host.new) (WritesAllAndReads object values.now result) }
 {
@@ -113,8 +124,8 @@ pub fn writes_then_read<H: Host>(
     host.consume(object)
 }
 
-/// Law: of a host that tells its table, as [`Host::faults`] gives it, [`Host::ready_many`] answers its reports in order of
-/// their objects, and of no object two.
+/// Law: of a host that tells its table, as [`Host::faults`] gives it, [`Host::ready_many`] answers its reports in order
+/// of their objects, and of no object two.
 pub fn reports_stand_by_object()
     ensures { ReportsByObject }
 {}

@@ -84,7 +84,8 @@ impl Host for MemHost {
     }
 
     fn create_event(&mut self, _alloc: Global, flags: u32) -> Result<u32, HostError>
-        ensures faults { CountsFaults self.old.plan.faults self.new.plan.faults (self.old.plan.calls.items ≡ []) (self.new.plan.calls.items ≡ []) result }
+        ensures faults { CountsFaults self.old.plan.faults self.new.plan.faults (self.old.plan.calls.items ≡ [])
+            (self.new.plan.calls.items ≡ []) result }
         ensures refusals { RefusesBy result (HostError.Failed ∷ HostError.EINVAL ∷ HostError.OutOfMemory ∷ []) }
         ensures table { CreateEventCall flags result self.old.table self.new.table }
         ensures plan { GoesByPlan self.old.plan self.new.plan result }
@@ -96,7 +97,8 @@ impl Host for MemHost {
     }
 
     fn create_list(&mut self, alloc: Global) -> Result<u32, HostError>
-        ensures faults { CountsFaults self.old.plan.faults self.new.plan.faults (self.old.plan.calls.items ≡ []) (self.new.plan.calls.items ≡ []) result }
+        ensures faults { CountsFaults self.old.plan.faults self.new.plan.faults (self.old.plan.calls.items ≡ [])
+            (self.new.plan.calls.items ≡ []) result }
         ensures refusals { RefusesBy result (HostError.Failed ∷ HostError.OutOfMemory ∷ []) }
         ensures table { CreateListCall result self.old.table self.new.table }
         ensures plan { GoesByPlan self.old.plan self.new.plan result }
@@ -108,8 +110,10 @@ impl Host for MemHost {
     }
 
     fn signal(&mut self, object: u32, value: u64) -> Result<(), HostError>
-        ensures faults { CountsFaults self.old.plan.faults self.new.plan.faults (self.old.plan.calls.items ≡ []) (self.new.plan.calls.items ≡ []) result }
-        ensures refusals { RefusesBy result (HostError.Failed ∷ HostError.WouldBlock ∷ HostError.EINVAL ∷ HostError.EBADF ∷ []) }
+        ensures faults { CountsFaults self.old.plan.faults self.new.plan.faults (self.old.plan.calls.items ≡ [])
+            (self.new.plan.calls.items ≡ []) result }
+        ensures refusals { RefusesBy result
+            (HostError.Failed ∷ HostError.WouldBlock ∷ HostError.EINVAL ∷ HostError.EBADF ∷ []) }
         ensures table { SignalCall object value result self.old.table self.new.table }
         ensures plan { GoesByPlan self.old.plan self.new.plan result }
     {
@@ -120,7 +124,8 @@ impl Host for MemHost {
     }
 
     fn consume(&mut self, object: u32) -> Result<u64, HostError>
-        ensures faults { CountsFaults self.old.plan.faults self.new.plan.faults (self.old.plan.calls.items ≡ []) (self.new.plan.calls.items ≡ []) result }
+        ensures faults { CountsFaults self.old.plan.faults self.new.plan.faults (self.old.plan.calls.items ≡ [])
+            (self.new.plan.calls.items ≡ []) result }
         ensures refusals { RefusesBy result (HostError.Failed ∷ HostError.WouldBlock ∷ HostError.EBADF ∷ []) }
         ensures table { ConsumeCall object result self.old.table self.new.table }
         ensures plan { GoesByPlan self.old.plan self.new.plan result }
@@ -139,8 +144,10 @@ impl Host for MemHost {
         set: EventSet,
         token: u64,
     ) -> Result<(), HostError>
-        ensures faults { CountsFaults self.old.plan.faults self.new.plan.faults (self.old.plan.calls.items ≡ []) (self.new.plan.calls.items ≡ []) result }
-        ensures refusals { RefusesBy result (HostError.Failed ∷ HostError.EINVAL ∷ HostError.EEXIST ∷ HostError.EBADF ∷ HostError.OutOfMemory ∷ []) }
+        ensures faults { CountsFaults self.old.plan.faults self.new.plan.faults (self.old.plan.calls.items ≡ [])
+            (self.new.plan.calls.items ≡ []) result }
+        ensures refusals { RefusesBy result
+            (HostError.Failed ∷ HostError.EINVAL ∷ HostError.EEXIST ∷ HostError.EBADF ∷ HostError.OutOfMemory ∷ []) }
         ensures table { AddCall list (member_for object set token) result self.old.table self.new.table }
         ensures plan { GoesByPlan self.old.plan self.new.plan result }
     {
@@ -151,8 +158,10 @@ impl Host for MemHost {
     }
 
     fn modify(&mut self, list: u32, object: u32, set: EventSet, token: u64) -> Result<(), HostError>
-        ensures faults { CountsFaults self.old.plan.faults self.new.plan.faults (self.old.plan.calls.items ≡ []) (self.new.plan.calls.items ≡ []) result }
-        ensures refusals { RefusesBy result (HostError.Failed ∷ HostError.EINVAL ∷ HostError.ENOENT ∷ HostError.EBADF ∷ []) }
+        ensures faults { CountsFaults self.old.plan.faults self.new.plan.faults (self.old.plan.calls.items ≡ [])
+            (self.new.plan.calls.items ≡ []) result }
+        ensures refusals { RefusesBy result
+            (HostError.Failed ∷ HostError.EINVAL ∷ HostError.ENOENT ∷ HostError.EBADF ∷ []) }
         ensures table { ModifyCall list (member_for object set token) result self.old.table self.new.table }
         ensures plan { GoesByPlan self.old.plan self.new.plan result }
     {
@@ -163,7 +172,8 @@ impl Host for MemHost {
     }
 
     fn delete(&mut self, list: u32, object: u32) -> Result<(), HostError>
-        ensures faults { CountsFaults self.old.plan.faults self.new.plan.faults (self.old.plan.calls.items ≡ []) (self.new.plan.calls.items ≡ []) result }
+        ensures faults { CountsFaults self.old.plan.faults self.new.plan.faults (self.old.plan.calls.items ≡ [])
+            (self.new.plan.calls.items ≡ []) result }
         ensures refusals { RefusesBy result (HostError.Failed ∷ HostError.ENOENT ∷ HostError.EBADF ∷ []) }
         ensures table { DeleteCall list object result self.old.table self.new.table }
         ensures plan { GoesByPlan self.old.plan self.new.plan result }
@@ -181,8 +191,10 @@ impl Host for MemHost {
         object: u32,
         token: u64,
     ) -> Result<(), HostError>
-        ensures faults { CountsFaults self.old.plan.faults self.new.plan.faults (self.old.plan.calls.items ≡ []) (self.new.plan.calls.items ≡ []) result }
-        ensures refusals { RefusesBy result (HostError.Failed ∷ HostError.EEXIST ∷ HostError.EBADF ∷ HostError.OutOfMemory ∷ []) }
+        ensures faults { CountsFaults self.old.plan.faults self.new.plan.faults (self.old.plan.calls.items ≡ [])
+            (self.new.plan.calls.items ≡ []) result }
+        ensures refusals { RefusesBy result
+            (HostError.Failed ∷ HostError.EEXIST ∷ HostError.EBADF ∷ HostError.OutOfMemory ∷ []) }
         ensures table { ListenCall list object token result self.old.table self.new.table }
         ensures plan { GoesByPlan self.old.plan self.new.plan result }
     {
@@ -193,7 +205,8 @@ impl Host for MemHost {
     }
 
     fn unlisten(&mut self, list: u32, object: u32, above: u64) -> Result<(), HostError>
-        ensures faults { CountsFaults self.old.plan.faults self.new.plan.faults (self.old.plan.calls.items ≡ []) (self.new.plan.calls.items ≡ []) result }
+        ensures faults { CountsFaults self.old.plan.faults self.new.plan.faults (self.old.plan.calls.items ≡ [])
+            (self.new.plan.calls.items ≡ []) result }
         ensures refusals { RefusesBy result (HostError.Failed ∷ HostError.ENOENT ∷ HostError.EBADF ∷ []) }
         ensures table { UnlistenCall list object above result self.old.table self.new.table }
         ensures plan { GoesByPlan self.old.plan self.new.plan result }
@@ -205,7 +218,8 @@ impl Host for MemHost {
     }
 
     fn consume_as(&mut self, list: u32, object: u32, token: u64) -> Result<bool, HostError>
-        ensures faults { CountsFaults self.old.plan.faults self.new.plan.faults (self.old.plan.calls.items ≡ []) (self.new.plan.calls.items ≡ []) result }
+        ensures faults { CountsFaults self.old.plan.faults self.new.plan.faults (self.old.plan.calls.items ≡ [])
+            (self.new.plan.calls.items ≡ []) result }
         ensures refusals { RefusesBy result (HostError.Failed ∷ HostError.EBADF ∷ []) }
         ensures table { ConsumeAsCall list object token result self.old.table self.new.table }
         ensures plan { GoesByPlan self.old.plan self.new.plan result }
@@ -217,7 +231,8 @@ impl Host for MemHost {
     }
 
     fn ready(&mut self, list: u32) -> Result<Option<Ready>, HostError>
-        ensures faults { CountsFaults self.old.plan.faults self.new.plan.faults (self.old.plan.calls.items ≡ []) (self.new.plan.calls.items ≡ []) result }
+        ensures faults { CountsFaults self.old.plan.faults self.new.plan.faults (self.old.plan.calls.items ≡ [])
+            (self.new.plan.calls.items ≡ []) result }
         ensures refusals { RefusesBy result (HostError.Failed ∷ HostError.EBADF ∷ []) }
         ensures table { ReadyCall list result self.old.table self.new.table }
         ensures least { FirstReadyCall list result self.old.table self.new.table }
@@ -230,7 +245,8 @@ impl Host for MemHost {
     }
 
     fn ready_many(&mut self, alloc: Global, list: u32, most: usize) -> Result<Vec<Ready>, HostError>
-        ensures faults { CountsFaults self.old.plan.faults self.new.plan.faults (self.old.plan.calls.items ≡ []) (self.new.plan.calls.items ≡ []) result }
+        ensures faults { CountsFaults self.old.plan.faults self.new.plan.faults (self.old.plan.calls.items ≡ [])
+            (self.new.plan.calls.items ≡ []) result }
         ensures refusals { RefusesBy result (HostError.Failed ∷ HostError.EBADF ∷ HostError.OutOfMemory ∷ []) }
         ensures table { ReadyManyCall list most result self.old.table self.new.table }
         ensures plan { GoesByPlan self.old.plan self.new.plan result }
@@ -242,7 +258,8 @@ impl Host for MemHost {
     }
 
     fn claim(&mut self, object: u32, queue: u32) -> Result<(), HostError>
-        ensures faults { CountsFaults self.old.plan.faults self.new.plan.faults (self.old.plan.calls.items ≡ []) (self.new.plan.calls.items ≡ []) result }
+        ensures faults { CountsFaults self.old.plan.faults self.new.plan.faults (self.old.plan.calls.items ≡ [])
+            (self.new.plan.calls.items ≡ []) result }
         ensures refusals { RefusesBy result (HostError.Failed ∷ HostError.EBADF ∷ HostError.Held ∷ []) }
         ensures table { ClaimCall object queue result self.old.table self.new.table }
         ensures plan { GoesByPlan self.old.plan self.new.plan result }

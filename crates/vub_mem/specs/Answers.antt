@@ -2,7 +2,8 @@
 use Rattle.std.specs.Prelude.{◌≡◌, ℕ, List, Bool, true, false, Result, Ok, Err}
 use Rattle.vub_base.specs.declared.octets.Bytes.{Bytes}
 use Rattle.vub_mem.specs.declared.errors.MemError.{MemError}
-use Rattle.vub_mem.specs.declared.errors.MemError.TheVariants.{Empty, Order, Overlap, Wraps, PastObject, NoSuchRegion, Outside, MissingMemoryMapping, OutOfMemory}
+use Rattle.vub_mem.specs.declared.errors.MemError.TheVariants.{Empty, Order, Overlap, Wraps, PastObject, NoSuchRegion}
+use Rattle.vub_mem.specs.declared.errors.MemError.TheVariants.{Outside, MissingMemoryMapping, OutOfMemory}
 
 abbrev pub ReadFails : MemError → Bool → Type 0
 ReadFails Outside covered = covered ≡ false

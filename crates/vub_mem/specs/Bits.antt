@@ -1,5 +1,6 @@
 -- The bits of a log that a range of places of a region meets.
-use Rattle.std.specs.Prelude.{◌≡◌, ℕ, ◌+◌, ◌-◌, ◌*◌, ◌/◌, ◌%◌, ◌^◌, ◌↔◌, Bool, false, not, IsTrue, ◌&&◌, ◌||◌, ◌==◌, nat_lt, nat_le, if◌then◌else◌, List, [], ◌∷◌, min, Option, Some, None, Result, Ok, Err}
+use Rattle.std.specs.Prelude.{◌≡◌, ℕ, ◌+◌, ◌-◌, ◌*◌, ◌/◌, ◌%◌, ◌^◌, ◌↔◌, Bool, false, not, IsTrue, ◌&&◌, ◌||◌, ◌==◌}
+use Rattle.std.specs.Prelude.{nat_lt, nat_le, if◌then◌else◌, List, [], ◌∷◌, min, Option, Some, None, Result, Ok, Err}
 use Rattle.std.specs.List.{range_with_len}
 use Rattle.vub_mem.specs.declared.region.Region.{Region}
 use Rattle.vub_mem.specs.declared.region.AtomicBitmapMmap.{AtomicBitmapMmap}
@@ -20,11 +21,13 @@ pages_from m place = min m.pages (2 ^ 52) - place / 4096
 -- the bits of the pages that a range of n places meets, in order, as far as the region has the pages and a log of
 -- `limit` bits has the bits
 abbrev pub bits_met : AtomicBitmapMmap → ℕ → ℕ → ℕ → List ℕ
-bits_met m limit place n = range_with_len (bit_of m place) (min (min (page_count place n) (pages_from m place)) (limit - bit_of m place))
+bits_met m limit place n =
+    range_with_len (bit_of m place) (min (min (page_count place n) (pages_from m place)) (limit - bit_of m place))
 
 -- the bit of a place, if the region has the place and a log of `limit` bits has the bit
 abbrev pub bit_at_place : AtomicBitmapMmap → ℕ → ℕ → Option ℕ
-bit_at_place m limit place = if nat_lt 0 (pages_from m place) && nat_lt (bit_of m place) limit then Some (bit_of m place) else None
+bit_at_place m limit place =
+    if nat_lt 0 (pages_from m place) && nat_lt (bit_of m place) limit then Some (bit_of m place) else None
 
 -- marks of bits of one log, one after the other
 abbrev pub MarksBits : {L : Type 0} → (L → ℕ → L → Type 0) → L → List ℕ → L → Type 0
@@ -34,7 +37,8 @@ MarksBits {L} step old (b ∷ bs) new = (mid : L) × step old b mid × MarksBits
 -- the answer to whether a bit stands: that of a byte as it is loaded, or false where there is no bit
 abbrev pub ShowsBit : {L : Type 0} → (L → ℕ → ℕ → L → Type 0) → L → Option ℕ → Bool → L → Type 0
 ShowsBit loads old None answer new = (answer ≡ false) × (new ≡ old)
-ShowsBit loads old (Some bit) answer new = (byte : ℕ) × loads old (bit / 8) byte new × (IsTrue answer ↔ (byte / 2 ^ (bit % 8) % 2 ≡ 1))
+ShowsBit loads old (Some bit) answer new =
+    (byte : ℕ) × loads old (bit / 8) byte new × (IsTrue answer ↔ (byte / 2 ^ (bit % 8) % 2 ≡ 1))
 
 -- whether a region has no page, passes 2 ^ 64, or has its last page past a log of this many bytes
 abbrev pub is_too_small : Region → ℕ → Bool
@@ -59,4 +63,6 @@ inner_bit (Some m) limit place = bit_at_place m limit place
 -- the bitmap whose place 0 is place `offset` of this one; where that passes 64 bits there is no such place, and no bit
 abbrev pub sliced : BitmapMmapRegion → ℕ → BitmapMmapRegion
 sliced b offset =
-    if nat_lt (b.base + offset) (2 ^ 64) then record b { base = b.base + offset } else record { inner = None; base = 2 ^ 64 - 1 }
+    if nat_lt (b.base + offset) (2 ^ 64)
+    then record b { base = b.base + offset }
+    else record { inner = None; base = 2 ^ 64 - 1 }

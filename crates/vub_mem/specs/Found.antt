@@ -22,8 +22,14 @@ pub record IsFound (rs : List Region) (a : ℕ) (r : Region) : Type 0 where
 pub record IsPlace (cs : List Content) (o k : ℕ) : Type 0 where
   pub within : k < length cs
   pub content : (d : Content) → (slice_index_or cs k d).bytes ≡ content_of cs o
-  pub write : (d : Content) (i b : ℕ) → slice_set cs k (record { object = (slice_index_or cs k d).object; bytes = slice_set (content_of cs o) i b }) ≡ with_byte cs o i b
-  pub store : (d : Content) (i : ℕ) (bs : List ℕ) → slice_set cs k (record { object = (slice_index_or cs k d).object; bytes = overwritten (content_of cs o) i bs }) ≡ with_bytes cs o i bs
+  pub write :
+      (d : Content) (i b : ℕ) →
+      slice_set cs k (record { object = (slice_index_or cs k d).object; bytes = slice_set (content_of cs o) i b })
+      ≡ with_byte cs o i b
+  pub store :
+      (d : Content) (i : ℕ) (bs : List ℕ) →
+      slice_set cs k (record { object = (slice_index_or cs k d).object; bytes = overwritten (content_of cs o) i bs })
+      ≡ with_bytes cs o i bs
 
 -- the address of a covered range that lies offset behind base
 pub record IsLocated (rs : List Region) (base offset len a : ℕ) : Type 0 where

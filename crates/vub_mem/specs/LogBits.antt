@@ -3,10 +3,11 @@ use Rattle.std.specs.Prelude.{◌≡◌, ◌≢◌, ◌↔◌, ℕ, ◌+◌, ◌
 use Rattle.std.specs.Int.{bit_at}
 use Rattle.vub_base.specs.Told.{Told}
 use Rattle.vub_mem.specs.declared.errors.LogError.{LogError}
-use Rattle.vub_mem.specs.declared.errors.LogError.TheVariants.{EmptyLog, PastObject, NotPageAligned, TooSmall, Unsupported, GenerationsSpent, OutOfMemory}
+use Rattle.vub_mem.specs.declared.errors.LogError.TheVariants.{EmptyLog, PastObject, NotPageAligned, TooSmall}
+use Rattle.vub_mem.specs.declared.errors.LogError.TheVariants.{Unsupported, GenerationsSpent, OutOfMemory}
 
--- the bit of each page, 1 where it is marked and else 0, and how often each word was harvested: byte b holds pages 8 * b
--- to 8 * b + 7, and word w pages 32 * w to 32 * w + 31, each from its lowest bit on
+-- the bit of each page, 1 where it is marked and else 0, and how often each word was harvested: byte b holds pages 8 *
+-- b to 8 * b + 7, and word w pages 32 * w to 32 * w + 31, each from its lowest bit on
 pub record LogBits : Type 0 where
   pub bit : ℕ → ℕ
   pub harvests : ℕ → ℕ
@@ -52,7 +53,8 @@ no_bits = record { bit = λ page. 0; harvests = λ word. 0 }
 -- where the bits are told, each mark of a page that a log has sets its bit, and changes nothing else
 abbrev pub MarksTold : {L : Type 0} → (L → ℕ) → (L → Option LogBits) → (L → ℕ → L → Type 0) → Type 0
 MarksTold {L} len told marks =
-    (old : L) (page : ℕ) (new : L) → page < 8 * len old → marks old page new → Told (told old) (told new) (MarksPage page)
+    (old : L) (page : ℕ) (new : L) → page < 8 * len old → marks old page new →
+    Told (told old) (told new) (MarksPage page)
 
 -- where the bits are told, each load of a byte that a log has gives its bits, and changes nothing
 abbrev pub LoadsTold : {L : Type 0} → (L → ℕ) → (L → Option LogBits) → (L → ℕ → ℕ → L → Type 0) → Type 0

@@ -1,5 +1,6 @@
 -- Which pages a write marks, and in which logs.
-use Rattle.std.specs.Prelude.{◌≡◌, ℕ, ◌+◌, ◌-◌, ◌*◌, ◌/◌, ◌<◌, ◌==◌, if◌then◌else◌, List, [], ◌∷◌, Option, Some, None, max}
+use Rattle.std.specs.Prelude.{◌≡◌, ℕ, ◌+◌, ◌-◌, ◌*◌, ◌/◌, ◌<◌, ◌==◌, if◌then◌else◌, List, [], ◌∷◌, Option, Some, None}
+use Rattle.std.specs.Prelude.{max}
 use Rattle.std.specs.List.{flat_map, range_with_len}
 use Rattle.vub_mem.specs.declared.dirty.Stored.{Stored}
 use Rattle.vub_mem.specs.declared.region.Region.{Region}
@@ -33,7 +34,8 @@ unfoldable pub marks_of : List Region → ℕ → ℕ → List Mark
 marks_of rs a n = flat_map (λ p. mark_at rs (max a (4096 * p))) (range_with_len (a / 4096) (page_count a n))
 
 -- the log has this page, and a mark of it leaves the second log for the first
-pub record IsMarked {L : Type 0} (len : L → ℕ) (marks : L → ℕ → L → Type 0) (old : L) (page : ℕ) (new : L) : Type 0 where
+pub record IsMarked {L : Type 0} (len : L → ℕ) (marks : L → ℕ → L → Type 0) (old : L) (page : ℕ)
+    (new : L) : Type 0 where
   pub has : page < 8 * len old
   pub marked : marks old page new
   pub kept : len new ≡ len old

@@ -14,4 +14,6 @@ place_at rs a = option_map (λ r. place_in a r) (region_of rs a)
 
 -- the addresses behind it in its region lie behind it in its object
 abbrev pub RunsOn : List Region → ℕ → Place → Type 0
-RunsOn rs a p = (i : ℕ) → i < p.left → place_at rs (a + i) ≡ Some (record { object = p.object; offset = p.offset + i; left = p.left - i })
+RunsOn rs a p =
+    (i : ℕ) → i < p.left →
+    place_at rs (a + i) ≡ Some (record { object = p.object; offset = p.offset + i; left = p.left - i })

@@ -13,5 +13,6 @@ IsPlacedApart rs a n = (j k o i : ℕ) → j < k → k < n → LiesAt rs (a + j)
 -- what is written into a range that is covered and placed apart is read back
 abbrev pub WritesAreReadBack : Type 0
 WritesAreReadBack =
-    (g : Guest) (a : ℕ) (bs : List ℕ) → IsSound g → covers g.regions a (length bs) ≡ true → IsPlacedApart g.regions a (length bs) →
+    (g : Guest) (a : ℕ) (bs : List ℕ) → IsSound g → covers g.regions a (length bs) ≡ true →
+    IsPlacedApart g.regions a (length bs) →
     bytes_at (write_at g a bs) a (length bs) ≡ bs

@@ -15,8 +15,8 @@ use Rattle.vub_mem.specs.Track.{is_aligned}
 abbrev pub last_bit : Region → AtomicBitmapMmap → ℕ
 last_bit r l = 8 * l.offset + (r.start + r.len - 1) / 4096
 
--- a region that is not empty and passes neither the last guest address nor 64 bits in its content; one with a log begins
--- and ends at a page, and the bit of its last page has 64 bits
+-- a region that is not empty and passes neither the last guest address nor 64 bits in its content; one with a log
+-- begins and ends at a page, and the bit of its last page has 64 bits
 pub record IsBounded (r : Region) : Type 0 where
   pub some : 0 < r.len
   pub ends : r.start + r.len < 2 ^ 64

@@ -1,10 +1,12 @@
 -- The log of the regions of a table.
-use Rattle.std.specs.Prelude.{◌≡◌, ℕ, ◌+◌, ◌-◌, ◌*◌, ◌/◌, ◌%◌, ◌<◌, Bool, true, not, ◌&&◌, ◌==◌, nat_lt, nat_le, if◌then◌else◌, List, Option, Some, None, Result, Ok, Err}
+use Rattle.std.specs.Prelude.{◌≡◌, ℕ, ◌+◌, ◌-◌, ◌*◌, ◌/◌, ◌%◌, ◌<◌, Bool, true, not, ◌&&◌, ◌==◌, nat_lt, nat_le}
+use Rattle.std.specs.Prelude.{if◌then◌else◌, List, Option, Some, None, Result, Ok, Err}
 use Rattle.vub_mem.specs.declared.dirty.Stored.{Stored}
 use Rattle.vub_mem.specs.declared.region.Region.{Region}
 use Rattle.vub_mem.specs.declared.region.AtomicBitmapMmap.{AtomicBitmapMmap}
 use Rattle.vub_mem.specs.declared.errors.LogError.{LogError}
-use Rattle.vub_mem.specs.declared.errors.LogError.TheVariants.{EmptyLog, PastObject, NotPageAligned, TooSmall, Unsupported}
+use Rattle.vub_mem.specs.declared.errors.LogError.TheVariants.{EmptyLog, PastObject, NotPageAligned, TooSmall}
+use Rattle.vub_mem.specs.declared.errors.LogError.TheVariants.{Unsupported}
 use Rattle.vub_mem.specs.Faults.{first_fault}
 use Rattle.vub_mem.specs.Logs.{log_len}
 

@@ -115,7 +115,8 @@ impl AtomicBitmapMmap {
     /// Marks the pages that `len` places of the region from `offset` on meet, in the log that is lent. Places past the
     /// region, and places whose bit is past the log, are ignored.
     pub fn mark_dirty<L: DirtyLog>(&self, log: &mut L, offset: u64, len: u64)
-        ensures { MarksBits (page_marks L.byte_len L.marks) log.old (bits_met self.now (8 * L.byte_len log.old) offset len) log.new }
+        ensures { MarksBits (page_marks L.byte_len L.marks) log.old
+            (bits_met self.now (8 * L.byte_len log.old) offset len) log.new }
     {
         let limit = 8 * log.len();
         match self.bit(offset) {

@@ -18,7 +18,8 @@ pub trait Bitmap {
 
     /// Marks the pages that `len` places from `offset` on meet. Places without a bit are ignored.
     fn mark_dirty<L: DirtyLog>(&self, log: &mut L, offset: u64, len: u64)
-        ensures { MarksBits (page_marks L.byte_len L.marks) log.old (bits self.now (8 * L.byte_len log.old) offset len) log.new };
+        ensures { MarksBits (page_marks L.byte_len L.marks) log.old
+            (bits self.now (8 * L.byte_len log.old) offset len) log.new };
 
     /// Whether the page of a place is marked. It is not where the place has no bit.
     fn dirty_at<L: DirtyLog>(&self, log: &mut L, offset: u64) -> bool

@@ -57,8 +57,11 @@ impl Bitmap for BitmapMmapRegion {
     /// Past place 2^64 - 1 there is no place: the slice has no bit then, and its base is 2^64 - 1.
     fn slice_at(&self, offset: u64) -> Self
         ensures value { result ≡ sliced self.now offset }
-        ensures bits { (limit place n : ℕ) → inner_bits result.inner limit (result.base + place) n ≡ inner_bits self.now.inner limit (self.now.base + (offset + place)) n }
-        ensures bit { (limit place : ℕ) → inner_bit result.inner limit (result.base + place) ≡ inner_bit self.now.inner limit (self.now.base + (offset + place)) }
+        ensures bits { (limit place n : ℕ)
+            → inner_bits result.inner limit (result.base + place) n ≡ inner_bits self.now.inner limit
+            (self.now.base + (offset + place)) n }
+        ensures bit { (limit place : ℕ) → inner_bit result.inner limit (result.base + place) ≡ inner_bit
+            self.now.inner limit (self.now.base + (offset + place)) }
     {
         match self.base.checked_add(offset) {
             None => BitmapMmapRegion {

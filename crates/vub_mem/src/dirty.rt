@@ -51,8 +51,8 @@ pub trait DirtyLog: Drop {
 /// A log of dirty pages whose words are harvested: word `w` holds pages `32 * w` to `32 * w + 31`, page `p` as bit
 /// `p % 32`.
 ///
-/// Of a log that tells its bits and its counts a harvest gives the bits of its word, clears them and raises the count of
-/// that word by 1; all else stays.
+/// Of a log that tells its bits and its counts a harvest gives the bits of its word, clears them and raises the count
+/// of that word by 1; all else stays.
 pub trait HarvestLog: DirtyLog {
     // a harvest of this word may hand out these bits, and leave the second log for the first
     ghost harvests: { Self → ℕ → ℕ → Self → Type 0 };
@@ -89,8 +89,8 @@ pub struct Stored<L: DirtyLog> {
     pub log: L,
 }
 
-/// The log of length 0, which has no page to mark. A mark, a load and a harvest of any number change nothing, and no bit
-/// is set.
+/// The log of length 0, which has no page to mark. A mark, a load and a harvest of any number change nothing, and no
+/// bit is set.
 impl DirtyLog for () {
     ghost byte_len = { λ _. 0 };
 

@@ -13,7 +13,8 @@ pub(crate) fn harvest_log<L: HarvestLog>(
     word: u64,
 ) -> Result<u32, LogError>
     requires { 4 * word < log_len L.byte_len logs.old object }
-    ensures harvested { IfOk result (λ bits. ChangesOne (λ old new. L.harvests old word bits new) logs.old object logs.new) }
+    ensures harvested { IfOk result (λ bits. ChangesOne
+        (λ old new. L.harvests old word bits new) logs.old object logs.new) }
     ensures spent { (result ≡ Err LogError.GenerationsSpent) ↔ HoldsOf (λ log. L.spent log word) logs.old object }
     ensures only { OnErr result (result ≡ Err LogError.GenerationsSpent) }
     ensures err { OnErr result (logs.new ≡ logs.old) }

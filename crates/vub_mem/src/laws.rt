@@ -14,16 +14,16 @@ pub fn writes_keep_the_shape()
     ensures { WritesKeepShape }
 {}
 
-/// Law: in each memory every page of 4096 guest bytes that a range meets in a region with a log is among the marks of the
-/// range.
+/// Law: in each memory every page of 4096 guest bytes that a range meets in a region with a log is among the marks of
+/// the range.
 pub fn every_met_page_has_a_mark<L: DirtyLog>(memory: &GuestMemory<L>)
     ensures { MarksEachPage memory.now.guest.regions }
 {
     let _regions = memory.regions();
 }
 
-/// Law: in each memory a mark is among the marks of a range exactly where some address of the range lies in a region with
-/// that log, and in that page.
+/// Law: in each memory a mark is among the marks of a range exactly where some address of the range lies in a region
+/// with that log, and in that page.
 pub fn marks_are_of_met_pages<L: DirtyLog>(memory: &GuestMemory<L>)
     ensures { MarksMetPages memory.now.guest.regions }
 {

@@ -71,7 +71,8 @@ impl<L: DirtyLog> GuestMemory<L> {
     /// neighbours `Order` where the second starts first, `Overlap` where they share an address.
     pub fn replace_table(&mut self, regions: Vec<Region>) -> Result<(), MemError>
         ensures answer { result ≡ table_answer (table_fault self.old.guest.contents regions.items) }
-        ensures ok { OnOk result (self.new ≡ record self.old { guest = record self.old.guest { regions = map unlogged regions.items } }) }
+        ensures ok { OnOk result (self.new ≡ record self.old
+            { guest = record self.old.guest { regions = map unlogged regions.items } }) }
         ensures err { OnErr result (self.new ≡ self.old) }
     {
         match test_table(&self.contents, &regions) {
@@ -92,9 +93,15 @@ impl<L: DirtyLog> GuestMemory<L> {
     /// where it passes address 2^64 - 1, `Overlap` where it shares an address with a region of the table. Want of
     /// memory.
     pub fn insert_region(&mut self, region: Region) -> Result<(), MemError>
-        ensures refused { IfSome (insert_fault self.old.guest.contents self.old.guest.regions region) (λ e. result ≡ Err e) }
-        ensures only { IfErr result (λ e. (Some e ≡ insert_fault self.old.guest.contents self.old.guest.regions region) ⊎ (e ≡ MemError.OutOfMemory)) }
-        ensures ok { OnOk result (self.new ≡ record self.old { guest = record self.old.guest { regions = insert self.old.guest.regions (place_of self.old.guest.regions region) (unlogged region) } }) }
+        ensures refused { IfSome (insert_fault self.old.guest.contents self.old.guest.regions region)
+            (λ e. result ≡ Err e) }
+        ensures only { IfErr result (λ e.
+            (Some e ≡ insert_fault self.old.guest.contents self.old.guest.regions region)
+            ⊎ (e ≡ MemError.OutOfMemory)) }
+        ensures ok { OnOk result (self.new ≡ record self.old {
+          guest = record self.old.guest
+              { regions = insert self.old.guest.regions (place_of self.old.guest.regions region) (unlogged region) };
+        }) }
         ensures err { OnErr result (self.new ≡ self.old) }
     {
         match test_insert(&self.contents, &self.regions, &region) {
@@ -119,7 +126,8 @@ impl<L: DirtyLog> GuestMemory<L> {
     /// `NoSuchRegion` exactly where the table has no such region.
     pub fn remove_region(&mut self, start: u64, len: u64) -> Result<Region, MemError>
         ensures answer { result ≡ remove_answer self.old.guest.regions start len }
-        ensures ok { OnOk result (self.new ≡ record self.old { guest = record self.old.guest { regions = without self.old.guest.regions start len } }) }
+        ensures ok { OnOk result (self.new ≡ record self.old
+            { guest = record self.old.guest { regions = without self.old.guest.regions start len } }) }
         ensures err { OnErr result (self.new ≡ self.old) }
     {
         match region_place(&self.regions, start, len) {
@@ -192,8 +200,12 @@ impl<L: DirtyLog> GuestMemory<L> {
         size: u64,
         tracks: bool,
     ) -> Result<(), LogError>
-        ensures answer { result ≡ log_answer (log_fault L.byte_len self.old.logs self.old.guest.regions object offset size tracks) }
-        ensures ok { OnOk result (self.new ≡ record self.old { guest = record self.old.guest { regions = map (λ r. with_log object offset r) self.old.guest.regions } }) }
+        ensures answer { result ≡ log_answer
+            (log_fault L.byte_len self.old.logs self.old.guest.regions object offset size tracks) }
+        ensures ok { OnOk result (self.new ≡ record self.old {
+          guest = record self.old.guest
+              { regions = map (λ r. with_log object offset r) self.old.guest.regions };
+        }) }
         ensures err { OnErr result (self.new ≡ self.old) }
     {
         match test_log(&self.regions, &self.logs, object, offset, size, tracks) {
@@ -209,7 +221,10 @@ impl<L: DirtyLog> GuestMemory<L> {
     pub fn put_object(&mut self, object: u32, bytes: Bytes) -> Result<(), MemError>
         requires { AllByRecursion (λ c. c.object ≢ object) self.old.guest.contents }
         ensures only { OnErr result (result ≡ Err MemError.OutOfMemory) }
-        ensures ok { OnOk result (self.new ≡ record self.old { guest = record self.old.guest { contents = self.old.guest.contents ++ record { object = object; bytes = bytes } ∷ [] } }) }
+        ensures ok { OnOk result (self.new ≡ record self.old {
+          guest = record self.old.guest
+              { contents = self.old.guest.contents ++ record { object = object; bytes = bytes } ∷ [] };
+        }) }
         ensures err { OnErr result (self.new ≡ self.old) }
     {
         match self.contents.push(Content { object, bytes }) {
@@ -225,7 +240,8 @@ impl<L: DirtyLog> GuestMemory<L> {
     pub fn put_log(&mut self, object: u32, log: L) -> Result<(), MemError>
         requires { AllByRecursion (λ s. s.object ≢ object) self.old.logs }
         ensures only { OnErr result (result ≡ Err MemError.OutOfMemory) }
-        ensures ok { OnOk result (self.new ≡ record self.old { logs = self.old.logs ++ record { object = object; log = log } ∷ [] }) }
+        ensures ok { OnOk result (self.new ≡ record self.old
+            { logs = self.old.logs ++ record { object = object; log = log } ∷ [] }) }
         ensures err { OnErr result (self.new ≡ self.old) }
     {
         match self.logs.push(Stored { object, log }) {
@@ -329,7 +345,8 @@ impl<L: DirtyLog> GuestMemory<L> {
     /// # Errors
     /// `Outside` exactly where its two bytes are not covered.
     pub fn read_u16(&self, addr: u64) -> Result<u16, MemError>
-        ensures { result ≡ (if covers self.now.guest.regions addr 2 then Ok (number_at w16 self.now.guest addr) else Err MemError.Outside) }
+        ensures { result ≡ (if covers self.now.guest.regions addr 2 then Ok (number_at w16 self.now.guest addr)
+            else Err MemError.Outside) }
     {
         if self.covers(addr, 2) {
             Ok(self.u16_at(addr))
@@ -344,7 +361,8 @@ impl<L: DirtyLog> GuestMemory<L> {
         requires { covers self.old.guest.regions addr (length bytes.now) ≡ true }
         ensures guest { self.new.guest ≡ write_at self.old.guest addr bytes.now }
         ensures regions { self.new.guest.regions ≡ self.old.guest.regions }
-        ensures logs { MarksAll (page_marks L.byte_len L.marks) self.old.logs (marks_of self.old.guest.regions addr (length bytes.now)) self.new.logs }
+        ensures logs { MarksAll (page_marks L.byte_len L.marks) self.old.logs
+            (marks_of self.old.guest.regions addr (length bytes.now)) self.new.logs }
     {
         write_range(&self.regions, &mut self.contents, addr, bytes);
         mark_range(&self.regions, &mut self.logs, addr, bytes.len() as u64);
@@ -356,11 +374,15 @@ impl<L: DirtyLog> GuestMemory<L> {
     /// # Errors
     /// `Outside` exactly where the range is not covered. Nothing is written or marked then.
     pub fn write(&mut self, addr: u64, bytes: &[u8]) -> Result<(), MemError>
-        ensures result { result ≡ (if covers self.old.guest.regions addr (length bytes.now) then Ok tt else Err MemError.Outside) }
+        ensures result { result ≡ (if covers self.old.guest.regions addr (length bytes.now) then Ok tt
+            else Err MemError.Outside) }
         ensures ok { OnOk result (self.new.guest ≡ write_at self.old.guest addr bytes.now) }
-        ensures covered { covers self.old.guest.regions addr (length bytes.now) ≡ true → self.new.guest ≡ write_at self.old.guest addr bytes.now }
+        ensures covered { covers self.old.guest.regions addr (length bytes.now) ≡ true
+            → self.new.guest ≡ write_at self.old.guest addr bytes.now }
         ensures regions { self.new.guest.regions ≡ self.old.guest.regions }
-        ensures logs { MarksAll (page_marks L.byte_len L.marks) self.old.logs (if covers self.old.guest.regions addr (length bytes.now) then marks_of self.old.guest.regions addr (length bytes.now) else []) self.new.logs }
+        ensures logs { MarksAll (page_marks L.byte_len L.marks) self.old.logs
+            (if covers self.old.guest.regions addr (length bytes.now)
+            then marks_of self.old.guest.regions addr (length bytes.now) else []) self.new.logs }
         ensures err { OnErr result (self.new ≡ self.old) }
     {
         if !self.covers(addr, bytes.len() as u64) {
@@ -377,9 +399,12 @@ impl<L: DirtyLog> GuestMemory<L> {
     pub fn write_u16(&mut self, addr: u64, value: u16) -> Result<(), MemError>
         ensures result { result ≡ (if covers self.old.guest.regions addr 2 then Ok tt else Err MemError.Outside) }
         ensures ok { OnOk result (self.new.guest ≡ write_at self.old.guest addr (to_le_bytes w16 value)) }
-        ensures covered { covers self.old.guest.regions addr 2 ≡ true → self.new.guest ≡ write_at self.old.guest addr (to_le_bytes w16 value) }
+        ensures covered { covers self.old.guest.regions addr 2 ≡ true
+            → self.new.guest ≡ write_at self.old.guest addr (to_le_bytes w16 value) }
         ensures regions { self.new.guest.regions ≡ self.old.guest.regions }
-        ensures logs { MarksAll (page_marks L.byte_len L.marks) self.old.logs (if covers self.old.guest.regions addr 2 then marks_of self.old.guest.regions addr 2 else []) self.new.logs }
+        ensures logs { MarksAll (page_marks L.byte_len L.marks) self.old.logs
+            (if covers self.old.guest.regions addr 2 then marks_of self.old.guest.regions addr 2 else [])
+            self.new.logs }
         ensures err { OnErr result (self.new ≡ self.old) }
     {
         self.write(addr, &value.to_le_bytes())
@@ -395,8 +420,10 @@ impl<L: HarvestLog> GuestMemory<L> {
     /// `GenerationsSpent` exactly where the word was harvested 4294967295 times. Nothing changes then.
     pub fn harvest(&mut self, object: u32, word: u64) -> Result<u32, LogError>
         requires { 4 * word < log_len L.byte_len self.old.logs object }
-        ensures harvested { IfOk result (λ bits. ChangesOne (λ old new. L.harvests old word bits new) self.old.logs object self.new.logs) }
-        ensures spent { (result ≡ Err LogError.GenerationsSpent) ↔ HoldsOf (λ log. L.spent log word) self.old.logs object }
+        ensures harvested { IfOk result (λ bits. ChangesOne
+            (λ old new. L.harvests old word bits new) self.old.logs object self.new.logs) }
+        ensures spent { (result ≡ Err LogError.GenerationsSpent) ↔ HoldsOf
+            (λ log. L.spent log word) self.old.logs object }
         ensures only { OnErr result (result ≡ Err LogError.GenerationsSpent) }
         ensures err { OnErr result (self.new ≡ self.old) }
         ensures guest { self.new.guest ≡ self.old.guest }

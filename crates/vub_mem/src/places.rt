@@ -184,7 +184,8 @@ fn region_part<'a>(
 /// The bytes from an address on, if they lie in one region.
 fn part_at<'a>(regions: &[Region], contents: &'a [Content], addr: u64, len: u64) -> Option<&'a [u8]>
     requires sound { IsSound (record { regions = regions.now; contents = contents.now }) }
-    ensures bytes { IfSome result (λ s. s.now ≡ bytes_at (record { regions = regions.now; contents = contents.now }) addr len) }
+    ensures bytes { IfSome result (λ s. s.now ≡ bytes_at (record { regions = regions.now; contents = contents.now })
+        addr len) }
     ensures len { IfSome result (λ s. length s.now ≡ len) }
 {
     match region_at(regions, addr) {
@@ -237,7 +238,11 @@ pub(crate) fn write_range(regions: &[Region], contents: &mut [Content], addr: u6
     requires covered { covers regions.now addr (length bytes.now) ≡ true }
     requires bound { addr + length bytes.now < 2 ^ 64 }
     ensures sound { IsSound (record { regions = regions.now; contents = contents.new }) }
-    ensures written { record { regions = regions.now; contents = contents.new } ≡ write_at (record { regions = regions.now; contents = contents.old }) addr bytes.now }
+    ensures written { record {
+      regions = regions.now;
+      contents = contents.new;
+    } ≡ write_at (record { regions = regions.now; contents = contents.old }) addr
+        bytes.now }
 {
     let mut at = addr;
     let mut rest = bytes;
@@ -294,7 +299,8 @@ fn chunk_at<'a>(regions: &[Region], contents: &'a [Content], at: u64, left: u64)
     requires sound { IsSound (record { regions = regions.now; contents = contents.now }) }
     requires covered { is_some (region_of regions.now at) ≡ true }
     requires some { 0 < left }
-    ensures bytes { result.now ≡ bytes_at (record { regions = regions.now; contents = contents.now }) at (length result.now) }
+    ensures bytes { result.now ≡ bytes_at (record { regions = regions.now; contents = contents.now }) at
+        (length result.now) }
     ensures some { 0 < length result.now }
     ensures fits { length result.now ≤ left }
 {
@@ -318,7 +324,8 @@ pub(crate) fn read_range(
     requires sound { IsSound (record { regions = regions.now; contents = contents.now }) }
     requires covered { covers regions.now addr len ≡ true }
     requires bound { addr + len < 2 ^ 64 }
-    ensures { IfOk result (λ v. v.items ≡ bytes_at (record { regions = regions.now; contents = contents.now }) addr len) }
+    ensures { IfOk result (λ v. v.items ≡ bytes_at (record { regions = regions.now; contents = contents.now }) addr
+        len) }
 {
     let mut bytes = Vec::new(alloc);
     let mut at = addr;

@@ -122,7 +122,11 @@ pub(crate) fn test_insert(
 ) -> Option<MemError>
     requires { IsSound (record { regions = regions.now; contents = contents.now }) }
     ensures value { result ≡ insert_fault contents.now regions.now region.now }
-    ensures tested { IfNone result (IsSound (record { regions = insert regions.now (place_of regions.now region.now) (unlogged region.now); contents = contents.now })) }
+    ensures tested { IfNone result (IsSound
+        (record {
+          regions = insert regions.now (place_of regions.now region.now) (unlogged region.now);
+          contents = contents.now;
+        })) }
 {
     match test_region(contents, region) {
         Some(fault) => Some(fault),

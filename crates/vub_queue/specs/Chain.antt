@@ -1,6 +1,7 @@
 -- The chain of a head: a relation on a whole list of descriptors (virtio 1.2, 2.7.5). Descriptors with INDIRECT are in
 -- no chain. That the lengths of a chain add to less than 2^32 is this crate's own limit.
-use Rattle.std.specs.Prelude.{◌≡◌, ℕ, ◌+◌, ◌<◌, ◌≤◌, Bool, true, false, not, ◌==◌, if◌then◌else◌, List, [], ◌∷◌, length, bit_and, map, sum_by, filter}
+use Rattle.std.specs.Prelude.{◌≡◌, ℕ, ◌+◌, ◌<◌, ◌≤◌, Bool, true, false, not, ◌==◌, if◌then◌else◌, List, [], ◌∷◌, length}
+use Rattle.std.specs.Prelude.{bit_and, map, sum_by, filter}
 use Rattle.std.specs.List.{flat_map}
 use Rattle.std.specs.Int.{w16, w32, w64}
 use Rattle.vub_mem.specs.Memory.{Guest}
@@ -22,7 +23,13 @@ is_indirect d = not (bit_and d.flags 4 == 0)
 
 -- the 16 bytes of a descriptor at an address: address, length, flags, next
 unfoldable pub descriptor_at : Guest → ℕ → Descriptor
-descriptor_at g a = record { addr = number_at w64 g a; len = number_at w32 g (a + 8); flags = number_at w16 g (a + 12); next = number_at w16 g (a + 14) }
+descriptor_at g a =
+    record {
+      addr = number_at w64 g a;
+      len = number_at w32 g (a + 8);
+      flags = number_at w16 g (a + 12);
+      next = number_at w16 g (a + 14);
+    }
 
 -- the sum of the lengths
 abbrev pub total : List Descriptor → ℕ

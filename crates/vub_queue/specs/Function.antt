@@ -1,5 +1,6 @@
 -- Looking at the next entry as a function of the memory and the ring: the walk that the relation does not name.
-use Rattle.std.specs.Prelude.{ℕ, zero, suc, if◌then◌else◌, List, [], ◌∷◌, ◌++◌, length, Option, Some, None, Result, Ok, Err, not, ◌&&◌}
+use Rattle.std.specs.Prelude.{ℕ, zero, suc, if◌then◌else◌, List, [], ◌∷◌, ◌++◌, length, Option, Some, None, Result, Ok}
+use Rattle.std.specs.Prelude.{Err, not, ◌&&◌}
 use Rattle.vub_mem.specs.Memory.{Guest}
 use Rattle.vub_queue.specs.Chain.{chain_of, descriptor_at, has_next, total}
 use Rattle.vub_queue.specs.Layout.{Table, slot_of, table_of}
@@ -25,7 +26,8 @@ abbrev pub walk_from : Guest → Table → ℕ → List Descriptor → ℕ → R
 walk_from g t zero ds i = Err TooLong
 walk_from g t (suc k) ds i =
     let d = descriptor_at g (slot_of t i) in
-    unless_fault (fault_of g t (length ds) (total ds) i) (if has_next d then walk_from g t k (ds ++ d ∷ []) d.next else Ok (ds ++ d ∷ []))
+    unless_fault (fault_of g t (length ds) (total ds) i)
+    (if has_next d then walk_from g t k (ds ++ d ∷ []) d.next else Ok (ds ++ d ∷ []))
 
 unfoldable pub walk_of : Guest → Table → ℕ → Result (List Descriptor) Damage
 walk_of g t head = walk_from g t (suc t.size) [] head

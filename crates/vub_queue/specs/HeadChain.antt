@@ -17,6 +17,7 @@ ChainGives g r head (took.Damaged d) = FailsFirst g (table_of r) head d
 
 -- a step for each descriptor that was read
 abbrev pub ChainCosts : Guest → Ring → ℕ → ℕ → ℕ → Took → Type 0
-ChainCosts g r head old new (took.Entry c) = (ds : List Descriptor) → IsChain g (table_of r) head ds → new ≡ old + length ds
+ChainCosts g r head old new (took.Entry c) =
+    (ds : List Descriptor) → IsChain g (table_of r) head ds → new ≡ old + length ds
 ChainCosts g r head old new took.None = Unit {0}
 ChainCosts g r head old new (took.Damaged d) = CostsFailure g (table_of r) head d old new

@@ -16,4 +16,5 @@ use Rattle.vub_queue.specs.declared.chain.Chain.{Chain}
 abbrev pub PutIndexIsReadBack : Type 0
 PutIndexIsReadBack =
     (g : Guest) (r : Ring) (c : Chain) (reply : List ℕ) → IsSound g → covers g.regions (used_index_at r) 2 ≡ true →
-    IsPlacedApart g.regions (used_index_at r) 2 → number_at w16 (put_guest g r c reply) (used_index_at r) ≡ after r.next_used
+    IsPlacedApart g.regions (used_index_at r) 2 →
+    number_at w16 (put_guest g r c reply) (used_index_at r) ≡ after r.next_used

@@ -28,11 +28,14 @@ EmptyWhereNoneIsLeft = (g : Guest) (r : Ring) → IsEmpty g r ↔ (is_left g r �
 
 -- A head has one chain at most.
 abbrev pub HeadHasOneChain : Type 0
-HeadHasOneChain = (g : Guest) (t : Table) (head : ℕ) (ds es : List Descriptor) → IsChain g t head ds → IsChain g t head es → ds ≡ es
+HeadHasOneChain =
+    (g : Guest) (t : Table) (head : ℕ) (ds es : List Descriptor) → IsChain g t head ds → IsChain g t head es → ds ≡ es
 
 -- A head that has a chain fails no test.
 abbrev pub ChainFailsNoTest : Type 0
-ChainFailsNoTest = (g : Guest) (t : Table) (head : ℕ) (ds : List Descriptor) (d : Damage) → IsChain g t head ds → FailsFirst g t head d → ⊥
+ChainFailsNoTest =
+    (g : Guest) (t : Table) (head : ℕ) (ds : List Descriptor) (d : Damage) → IsChain g t head ds →
+    FailsFirst g t head d → ⊥
 
 -- A take has one answer at most.
 abbrev pub TakeHasOneAnswer : Type 0
@@ -45,7 +48,8 @@ TakeHasAnAnswer = (g : Guest) (r : Ring) → Taken g r (took_of g r)
 -- no address that the reply fills lies at this place of an object
 abbrev pub IsOffReply : List Region → List Segment → List ℕ → ℕ → ℕ → Type 0
 IsOffReply rs [] reply o i = Unit {0}
-IsOffReply rs (s ∷ ss) reply o i = IsElsewhere rs s.addr (length (take s.len reply)) o i × IsOffReply rs ss (drop s.len reply) o i
+IsOffReply rs (s ∷ ss) reply o i =
+    IsElsewhere rs s.addr (length (take s.len reply)) o i × IsOffReply rs ss (drop s.len reply) o i
 
 -- A put changes the bytes that the reply fills, the used element and the index word, and no other. Bytes go by object
 -- and place, since two addresses may show one byte.

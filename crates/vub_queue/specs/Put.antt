@@ -1,5 +1,6 @@
 -- What putting a reply answers and does.
-use Rattle.std.specs.Prelude.{ℕ, Bool, true, not, ◌&&◌, if◌then◌else◌, nat_lt, List, [], ◌∷◌, ◌++◌, length, take, drop, Result, Ok, Err}
+use Rattle.std.specs.Prelude.{ℕ, Bool, true, not, ◌&&◌, if◌then◌else◌, nat_lt, List, [], ◌∷◌, ◌++◌, length, take, drop}
+use Rattle.std.specs.Prelude.{Result, Ok, Err}
 use Rattle.std.specs.Int.{w16, w32, to_le_bytes}
 use Rattle.vub_mem.specs.Memory.{Guest}
 use Rattle.vub_mem.specs.Marks.{Mark, marks_of}
@@ -40,7 +41,8 @@ used_covers rs r = covers rs (used_element_at r) 8 && covers rs (used_index_at r
 -- the memory after the element (head, length) and then the index word (virtio 1.2, 2.7.8)
 unfoldable pub write_used : Guest → Ring → ℕ → ℕ → Guest
 write_used g r head len =
-    write_at (write_at g (used_element_at r) (to_le_bytes w32 head ++ to_le_bytes w32 len)) (used_index_at r) (to_le_bytes w16 (after r.next_used))
+    write_at (write_at g (used_element_at r) (to_le_bytes w32 head ++ to_le_bytes w32 len)) (used_index_at r)
+    (to_le_bytes w16 (after r.next_used))
 
 unfoldable pub used_marks : List Region → Ring → List Mark
 used_marks rs r = marks_of rs (used_element_at r) 8 ++ marks_of rs (used_index_at r) 2

@@ -1,5 +1,6 @@
 -- The state of a new queue, and which sizes and addresses a queue takes.
-use Rattle.std.specs.Prelude.{◌≡◌, ℕ, ◌%◌, false, not, ◌==◌, ◌&&◌, nat_le, if◌then◌else◌, List, None, Result, Ok, Err, codes}
+use Rattle.std.specs.Prelude.{◌≡◌, ℕ, ◌%◌, false, not, ◌==◌, ◌&&◌, nat_le, if◌then◌else◌, List, None, Result, Ok, Err}
+use Rattle.std.specs.Prelude.{codes}
 use Rattle.std.specs.Int.{is_power_of_two}
 use Rattle.vub_queue.specs.Ring.{Ring}
 use Rattle.vub_queue.specs.declared.addresses.Addresses.{Addresses}
@@ -16,7 +17,17 @@ part_text Used = codes "used ring"
 
 -- a queue before the driver has set it up
 abbrev pub new_ring : ℕ → Ring
-new_ring max = record { max = max; size = max; ready = false; event_idx = false; addresses = None; next_avail = 0; next_used = 0; told = 0 }
+new_ring max =
+    record {
+      max = max;
+      size = max;
+      ready = false;
+      event_idx = false;
+      addresses = None;
+      next_avail = 0;
+      next_used = 0;
+      told = 0;
+    }
 
 -- The size of a queue is a power of two (virtio 1.2, 2.7).
 abbrev pub new_answer : ℕ → Result Ring QueueError

@@ -1,5 +1,6 @@
 -- What taking the next entry of a ring answers, does and costs.
-use Rattle.std.specs.Prelude.{◌≡◌, ℕ, ◌+◌, ◌⊎◌, Bool, true, false, not, nat_lt, ◌==◌, if◌then◌else◌, List, [], length, sum_by}
+use Rattle.std.specs.Prelude.{◌≡◌, ℕ, ◌+◌, ◌⊎◌, Bool, true, false, not, nat_lt, ◌==◌, if◌then◌else◌, List, [], length}
+use Rattle.std.specs.Prelude.{sum_by}
 use Rattle.std.specs.Int.{w16, to_le_bytes}
 use Rattle.vub_mem.specs.Memory.{Guest}
 use Rattle.vub_mem.specs.Marks.{Mark, marks_of}
@@ -30,7 +31,8 @@ head_of g r =
 
 -- the entry is what the chain of the next head makes
 abbrev pub IsEntry : Guest → Ring → Chain → Type 0
-IsEntry g r c = (ds : List Descriptor) × (head_of g r ≡ At c.head) × IsChain g (table_of r) c.head ds × (c ≡ chain_of g c.head ds)
+IsEntry g r c =
+    (ds : List Descriptor) × (head_of g r ≡ At c.head) × IsChain g (table_of r) c.head ds × (c ≡ chain_of g c.head ds)
 
 -- the index word is covered and equals the number of the next entry
 abbrev pub IsEmpty : Guest → Ring → Type 0
@@ -76,11 +78,12 @@ marks_taken rs r (took.Entry c) = []
 marks_taken rs r took.None = if r.event_idx then marks_of rs (avail_event_at r) 2 else []
 marks_taken rs r (took.Damaged d) = []
 
--- Damage costs a step for each descriptor that was read: none where the available ring fails a test, or where nothing is
--- left and avail_event can't be written.
+-- Damage costs a step for each descriptor that was read: none where the available ring fails a test, or where nothing
+-- is left and avail_event can't be written.
 abbrev pub CostsDamage : Guest → Ring → Damage → ℕ → ℕ → Type 0
 CostsDamage g r d old new =
-    (((head_of g r ≡ Broken d) ⊎ IsEmpty g r) × (new ≡ old)) ⊎ ((head : ℕ) × (head_of g r ≡ At head) × CostsFailure g (table_of r) head d old new)
+    (((head_of g r ≡ Broken d) ⊎ IsEmpty g r) × (new ≡ old))
+    ⊎ ((head : ℕ) × (head_of g r ≡ At head) × CostsFailure g (table_of r) head d old new)
 
 -- An entry costs a step for each descriptor of its chain, an empty ring none, and damage one for each that was read.
 abbrev pub Costs : Guest → Ring → ℕ → ℕ → Took → Type 0

@@ -8,7 +8,17 @@ use Rattle.vub_queue.specs.declared.queue.Queue.TheInside.{Inside}
 
 -- what a contract sees of the fields
 abbrev pub ring_of : Inside → Ring
-ring_of q = record { max = q.max; size = q.size; ready = q.ready; event_idx = q.event_idx; addresses = q.addresses; next_avail = q.next_avail; next_used = q.next_used; told = q.told }
+ring_of q =
+    record {
+      max = q.max;
+      size = q.size;
+      ready = q.ready;
+      event_idx = q.event_idx;
+      addresses = q.addresses;
+      next_avail = q.next_avail;
+      next_used = q.next_used;
+      told = q.told;
+    }
 
 -- what every queue keeps
 pub record IsSound (q : Inside) : Type 0 where

@@ -1,11 +1,13 @@
 -- Where a head has no chain: the first test that fails on the way from the head.
-use Rattle.std.specs.Prelude.{◌≡◌, ℕ, ◌+◌, ◌<◌, ◌≤◌, true, not, nat_le, nat_lt, if◌then◌else◌, List, [], ◌∷◌, length, Option, Some, None}
+use Rattle.std.specs.Prelude.{◌≡◌, ℕ, ◌+◌, ◌<◌, ◌≤◌, true, not, nat_le, nat_lt, if◌then◌else◌, List, [], ◌∷◌, length}
+use Rattle.std.specs.Prelude.{Option, Some, None}
 use Rattle.vub_mem.specs.Memory.{Guest}
 use Rattle.vub_mem.specs.Place.{covers}
 use Rattle.vub_queue.specs.Chain.{IsChain, Stands, descriptor_at, has_next, is_indirect, total}
 use Rattle.vub_queue.specs.Layout.{Table, slot_of}
 use Rattle.vub_queue.specs.declared.damage.Damage.{Damage}
-use Rattle.vub_queue.specs.declared.damage.Damage.TheVariants.{RingOutside, IndexAhead, TooLong, BadNumber, Indirect, TooBig, SegmentOutside}
+use Rattle.vub_queue.specs.declared.damage.Damage.TheVariants.{RingOutside, IndexAhead, TooLong, BadNumber, Indirect}
+use Rattle.vub_queue.specs.declared.damage.Damage.TheVariants.{TooBig, SegmentOutside}
 use Rattle.vub_queue.specs.declared.descriptor.Descriptor.{Descriptor}
 use Rattle.vub_queue.specs.declared.walk.Walk.{Walk}
 use Rattle.vub_queue.specs.declared.walk.Walk.TheVariants.{Whole, Failed}
@@ -49,8 +51,8 @@ abbrev pub Walks : Guest → Table → ℕ → Walk → Type 0
 Walks g t head (Whole ds) = IsChain g t head ds.items
 Walks g t head (Failed damage) = FailsFirst g t head damage
 
--- How many descriptors of a table of this size are read where this test fails after n that pass: those, and the one that
--- fails where the test is of what it says. A chain that is too long has as many before as the table.
+-- How many descriptors of a table of this size are read where this test fails after n that pass: those, and the one
+-- that fails where the test is of what it says. A chain that is too long has as many before as the table.
 abbrev pub reads_at : ℕ → ℕ → Damage → ℕ
 reads_at size n TooLong = size
 reads_at size n BadNumber = n
@@ -63,7 +65,8 @@ reads_at size n SegmentOutside = n + 1
 -- a walk that fails costs a step for each descriptor that it read
 abbrev pub CostsFailure : Guest → Table → ℕ → Damage → ℕ → ℕ → Type 0
 CostsFailure g t head damage old new =
-    (ds : List Descriptor) × (i : ℕ) × Passes g t head ds i × (fault_of g t (length ds) (total ds) i ≡ Some damage) × (new ≡ old + reads_at t.size (length ds) damage)
+    (ds : List Descriptor) × (i : ℕ) × Passes g t head ds i × (fault_of g t (length ds) (total ds) i ≡ Some damage) ×
+    (new ≡ old + reads_at t.size (length ds) damage)
 
 -- a whole walk costs a step for each descriptor
 abbrev pub CostsAsWalk : Guest → Table → ℕ → ℕ → ℕ → Walk → Type 0

@@ -13,8 +13,8 @@ use vub_base::{OutOfMemory, Steps};
 use vub_mem::{DirtyLog, GuestMemory};
 
 /// The chain of a head (virtio 1.2, 2.7.5): Entry with the bytes that the driver wrote and the segments that the device
-/// may write, or Damaged with the first test that a descriptor fails; never None. The queue stays as it is: a device asks
-/// for a head that it took before, and that it is to serve again. Each descriptor that is read is one step on the
+/// may write, or Damaged with the first test that a descriptor fails; never None. The queue stays as it is: a device
+/// asks for a head that it took before, and that it is to serve again. Each descriptor that is read is one step on the
 /// counter, at most as many as the queue's size. The addresses are to be set.
 pub fn chain_at<L: DirtyLog, K: Ledger>(
     alloc: Global,

@@ -16,7 +16,8 @@ impl Queue {
     /// exactly where it is not covered. The addresses are to be set.
     pub fn avail_idx<L: DirtyLog>(&self, memory: &GuestMemory<L>) -> Result<u16, QueueError>
         requires { IsSome self.now.addresses }
-        ensures { result ≡ (if index_covers memory.now.guest self.now then Ok (number_at w16 memory.now.guest (avail_index_at self.now)) else Err QueueError.Outside) }
+        ensures { result ≡ (if index_covers memory.now.guest self.now
+            then Ok (number_at w16 memory.now.guest (avail_index_at self.now)) else Err QueueError.Outside) }
     {
         let at = self.placed();
         match memory.locate(at.avail, 2, 2) {
@@ -29,7 +30,8 @@ impl Queue {
     /// not covered. The addresses are to be set.
     pub fn used_idx<L: DirtyLog>(&self, memory: &GuestMemory<L>) -> Result<u16, QueueError>
         requires { IsSome self.now.addresses }
-        ensures { result ≡ (if covers memory.now.guest.regions (used_index_at self.now) 2 then Ok (number_at w16 memory.now.guest (used_index_at self.now)) else Err QueueError.Outside) }
+        ensures { result ≡ (if covers memory.now.guest.regions (used_index_at self.now) 2
+            then Ok (number_at w16 memory.now.guest (used_index_at self.now)) else Err QueueError.Outside) }
     {
         let at = self.placed();
         match memory.locate(at.used, 2, 2) {
@@ -52,7 +54,8 @@ impl Queue {
         ensures used { OnOk result (memory.new.guest ≡ write_used memory.old.guest self.old head len) }
         ensures queue { OnOk result (self.new ≡ ring_used self.old) }
         ensures regions { memory.new.guest.regions ≡ memory.old.guest.regions }
-        ensures logs { OnOk result (MarksAll (page_marks L.byte_len L.marks) memory.old.logs (used_marks memory.old.guest.regions self.old) memory.new.logs) }
+        ensures logs { OnOk result (MarksAll (page_marks L.byte_len L.marks) memory.old.logs
+            (used_marks memory.old.guest.regions self.old) memory.new.logs) }
         ensures memory { OnErr result (memory.new ≡ memory.old) }
         ensures same { OnErr result (self.new ≡ self.old) }
     {

@@ -1,5 +1,5 @@
-//! The numbers of a split ring (virtio 1.2): the flags of a descriptor (2.7.5), the alignments of the three parts (2.7),
-//! and how far behind the start of a ring its parts lie (2.7.6, 2.7.8), in bytes.
+//! The numbers of a split ring (virtio 1.2): the flags of a descriptor (2.7.5), the alignments of the three parts
+//! (2.7), and how far behind the start of a ring its parts lie (2.7.6, 2.7.8), in bytes.
 ghost use Rattle.std.specs.Prelude.{◌≡◌, ◌+◌, ◌*◌};
 
 /// The chain goes on at the descriptor that `next` numbers.

@@ -101,10 +101,12 @@ impl Queue {
         memory: &mut GuestMemory<L>,
     ) -> Result<bool, QueueError>
         requires { IsSome self.old.addresses }
-        ensures answer { result ≡ (if covers memory.old.guest.regions (asking_at self.old) 2 then Ok (is_left memory.new.guest self.old) else Err QueueError.Outside) }
+        ensures answer { result ≡ (if covers memory.old.guest.regions (asking_at self.old) 2
+            then Ok (is_left memory.new.guest self.old) else Err QueueError.Outside) }
         ensures guest { OnOk result (memory.new.guest ≡ guest_asking memory.old.guest self.old) }
         ensures regions { memory.new.guest.regions ≡ memory.old.guest.regions }
-        ensures logs { OnOk result (MarksAll (page_marks L.byte_len L.marks) memory.old.logs (marks_of memory.old.guest.regions (asking_at self.old) 2) memory.new.logs) }
+        ensures logs { OnOk result (MarksAll (page_marks L.byte_len L.marks) memory.old.logs
+            (marks_of memory.old.guest.regions (asking_at self.old) 2) memory.new.logs) }
         ensures queue { self.new ≡ self.old }
         ensures err { OnErr result (memory.new ≡ memory.old) }
     {
@@ -125,10 +127,13 @@ impl Queue {
         memory: &mut GuestMemory<L>,
     ) -> Result<(), QueueError>
         requires { IsSome self.old.addresses }
-        ensures answer { result ≡ (if self.old.event_idx || covers memory.old.guest.regions (used_flags_at self.old) 2 then Ok tt else Err QueueError.Outside) }
+        ensures answer { result ≡ (if self.old.event_idx || covers memory.old.guest.regions (used_flags_at self.old) 2
+            then Ok tt else Err QueueError.Outside) }
         ensures guest { OnOk result (memory.new.guest ≡ guest_declining memory.old.guest self.old) }
         ensures regions { memory.new.guest.regions ≡ memory.old.guest.regions }
-        ensures logs { OnOk result (MarksAll (page_marks L.byte_len L.marks) memory.old.logs (if self.old.event_idx then [] else marks_of memory.old.guest.regions (used_flags_at self.old) 2) memory.new.logs) }
+        ensures logs { OnOk result (MarksAll (page_marks L.byte_len L.marks) memory.old.logs
+            (if self.old.event_idx then [] else marks_of memory.old.guest.regions (used_flags_at self.old) 2)
+            memory.new.logs) }
         ensures queue { self.new ≡ self.old }
         ensures err { OnErr result (memory.new ≡ memory.old) }
     {

@@ -42,7 +42,8 @@ fn write_room<L: DirtyLog>(memory: &mut GuestMemory<L>, segments: &[Segment], re
     requires { room_covers memory.old.guest.regions segments.now reply.now ≡ true }
     ensures guest { memory.new.guest ≡ write_reply memory.old.guest segments.now reply.now }
     ensures regions { memory.new.guest.regions ≡ memory.old.guest.regions }
-    ensures logs { MarksAll (page_marks L.byte_len L.marks) memory.old.logs (reply_marks memory.old.guest.regions segments.now reply.now) memory.new.logs }
+    ensures logs { MarksAll (page_marks L.byte_len L.marks) memory.old.logs
+        (reply_marks memory.old.guest.regions segments.now reply.now) memory.new.logs }
 {
     let mut rest = reply;
     for segment in segments {
@@ -60,7 +61,8 @@ fn write_all<L: DirtyLog>(memory: &mut GuestMemory<L>, queue: &Queue, chain: &Ch
     requires short { length reply.now < 2 ^ 32 }
     ensures regions { memory.new.guest.regions ≡ memory.old.guest.regions }
     ensures guest { memory.new.guest ≡ put_guest memory.old.guest queue.now chain.now reply.now }
-    ensures logs { MarksAll (page_marks L.byte_len L.marks) memory.old.logs (put_marks memory.old.guest.regions queue.now chain.now reply.now) memory.new.logs }
+    ensures logs { MarksAll (page_marks L.byte_len L.marks) memory.old.logs
+        (put_marks memory.old.guest.regions queue.now chain.now reply.now) memory.new.logs }
 {
     write_room(memory, chain.segments.as_slice(), reply);
     write_use(memory, queue, chain.head, reply.len() as u32);
@@ -83,11 +85,13 @@ pub fn put<L: DirtyLog>(
     requires addresses { IsSome queue.old.addresses }
     requires fits { length reply.now ≤ chain.now.room }
     requires room { chain.now.room ≡ sum_by (λ s. s.len) chain.now.segments }
-    ensures answer { result ≡ put_answer memory.old.guest.regions queue.old chain.now reply.now (wants_notification memory.new.guest (ring_used queue.old)) }
+    ensures answer { result ≡ put_answer memory.old.guest.regions queue.old chain.now reply.now
+        (wants_notification memory.new.guest (ring_used queue.old)) }
     ensures put { OnOk result (memory.new.guest ≡ put_guest memory.old.guest queue.old chain.now reply.now) }
     ensures queue { OnOk result (queue.new ≡ ring_told (ring_used queue.old)) }
     ensures regions { memory.new.guest.regions ≡ memory.old.guest.regions }
-    ensures logs { OnOk result (MarksAll (page_marks L.byte_len L.marks) memory.old.logs (put_marks memory.old.guest.regions queue.old chain.now reply.now) memory.new.logs) }
+    ensures logs { OnOk result (MarksAll (page_marks L.byte_len L.marks) memory.old.logs
+        (put_marks memory.old.guest.regions queue.old chain.now reply.now) memory.new.logs) }
     ensures memory { OnErr result (memory.new ≡ memory.old) }
     ensures same { OnErr result (queue.new ≡ queue.old) }
 {

@@ -224,7 +224,8 @@ impl Queue {
     /// where they are no multiples of 16, 2 and 4: the first that is not is named.
     pub fn set_info(&mut self, desc: u64, avail: u64, used: u64) -> Result<(), QueueError>
         ensures answer { result ≡ info_answer desc avail used }
-        ensures ok { OnOk result (self.new ≡ record self.old { addresses = Some (record { desc = desc; avail = avail; used = used }) }) }
+        ensures ok { OnOk result (self.new ≡ record self.old
+            { addresses = Some (record { desc = desc; avail = avail; used = used }) }) }
         ensures err { OnErr result (self.new ≡ self.old) }
     {
         let at = Addresses { desc, avail, used };

@@ -149,7 +149,8 @@ pub fn take<L: DirtyLog, K: Ledger>(
     ensures queue { IfOk result (λ t. queue.new ≡ ring_taken queue.old t) }
     ensures guest { IfOk result (λ t. memory.new.guest ≡ guest_taken memory.old.guest queue.old t) }
     ensures regions { memory.new.guest.regions ≡ memory.old.guest.regions }
-    ensures logs { IfOk result (λ t. MarksAll (page_marks L.byte_len L.marks) memory.old.logs (marks_taken memory.old.guest.regions queue.old t) memory.new.logs) }
+    ensures logs { IfOk result (λ t. MarksAll (page_marks L.byte_len L.marks) memory.old.logs
+        (marks_taken memory.old.guest.regions queue.old t) memory.new.logs) }
     ensures cost { IfOk result (Costs memory.old.guest queue.old steps.old steps.new) }
     ensures long { IfOk result (λ t. t ≡ Took.Damaged Damage.TooLong → steps.new ≡ steps.old + queue.old.size) }
     ensures most { steps.new ≤ steps.old + queue.old.size }

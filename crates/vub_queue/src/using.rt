@@ -36,7 +36,8 @@ fn write_behind<L: DirtyLog>(memory: &mut GuestMemory<L>, base: u64, offset: u64
     requires covered { covers memory.old.guest.regions (base + offset) (length bytes.now) ≡ true }
     ensures guest { memory.new.guest ≡ write_at memory.old.guest (base + offset) bytes.now }
     ensures regions { memory.new.guest.regions ≡ memory.old.guest.regions }
-    ensures logs { MarksAll (page_marks L.byte_len L.marks) memory.old.logs (marks_of memory.old.guest.regions (base + offset) (length bytes.now)) memory.new.logs }
+    ensures logs { MarksAll (page_marks L.byte_len L.marks) memory.old.logs
+        (marks_of memory.old.guest.regions (base + offset) (length bytes.now)) memory.new.logs }
 {
     let Some(at) = memory.locate(base, offset, bytes.len() as u64) else {
         unreachable!()
@@ -55,7 +56,8 @@ pub(crate) fn write_use<L: DirtyLog>(
     requires { used_covers memory.old.guest.regions queue.now ≡ true }
     ensures regions { memory.new.guest.regions ≡ memory.old.guest.regions }
     ensures guest { memory.new.guest ≡ write_used memory.old.guest queue.now head len }
-    ensures logs { MarksAll (page_marks L.byte_len L.marks) memory.old.logs (used_marks memory.old.guest.regions queue.now) memory.new.logs }
+    ensures logs { MarksAll (page_marks L.byte_len L.marks) memory.old.logs
+        (used_marks memory.old.guest.regions queue.now) memory.new.logs }
 {
     let at = queue.placed();
     let slot = queue.next_used() % queue.size();

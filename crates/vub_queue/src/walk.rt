@@ -53,7 +53,8 @@ fn next_descriptor<L: DirtyLog, K: Ledger>(
     requires sum { sum ≤ 4294967295 }
     requires read { read ≤ size }
     ensures ok { IfOk result (Fits memory.now.guest (record { base = table; size = size }) read sum number) }
-    ensures err { IfErr result (λ damage. fault_of memory.now.guest (record { base = table; size = size }) read sum number ≡ Some damage) }
+    ensures err { IfErr result (λ damage. fault_of memory.now.guest (record { base = table; size = size }) read sum
+        number ≡ Some damage) }
     ensures cost { OnOk result (steps.new ≡ steps.old + 1) }
     ensures reads { IfErr result (λ damage. steps.new + read ≡ steps.old + reads_at size read damage) }
     ensures most { OnErr result (steps.new + read ≤ steps.old + size) }
@@ -90,7 +91,8 @@ pub(crate) fn read_chain<L: DirtyLog, K: Ledger>(
     steps: &mut Steps<K>,
 ) -> Result<Walk, OutOfMemory>
     ensures walked { IfOk result (Walks memory.now.guest (record { base = table; size = size }) head) }
-    ensures cost { IfOk result (CostsAsWalk memory.now.guest (record { base = table; size = size }) head steps.old steps.new) }
+    ensures cost { IfOk result (CostsAsWalk memory.now.guest (record { base = table; size = size }) head steps.old
+        steps.new) }
     ensures most { steps.new ≤ steps.old + size }
 {
     let mut list = Vec::new(alloc);

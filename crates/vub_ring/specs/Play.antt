@@ -1,6 +1,7 @@
 -- What the calls that play a step on lent parts say and leave, part by part: the ring, the guest's memory, the host's
 -- table, a pending set.
-use Rattle.std.specs.Prelude.{◌≡◌, ◌⊎◌, ℕ, Bool, true, false, if◌then◌else◌, List, [], sum_by, Option, Some, None, Result, Ok, Err}
+use Rattle.std.specs.Prelude.{◌≡◌, ◌⊎◌, ℕ, Bool, true, false, if◌then◌else◌, List, [], sum_by, Option, Some, None}
+use Rattle.std.specs.Prelude.{Result, Ok, Err}
 use Rattle.vub_base.specs.Told.{Told}
 use Rattle.vub_base.specs.Causes.{Rose}
 use Rattle.vub_mem.specs.Memory.{Guest}
@@ -37,8 +38,8 @@ use Rattle.vub_ring.specs.declared.ops.PendSaid.{PendSaid}
 use Rattle.vub_ring.specs.declared.ops.PendSaid.TheVariants as pend_said
 use Rattle.vub_ring.specs.declared.ops.PartsError.{PartsError}
 
--- The host's table, where it is told: a call that was made leaves what the relation says, and one that was not leaves it
--- as it was.
+-- The host's table, where it is told: a call that was made leaves what the relation says, and one that was not leaves
+-- it as it was.
 abbrev pub OnTable : {S : Type 0} → Result S PartsError → Option HostTable → Option HostTable
     → (S → HostTable → HostTable → Type 0) → Type 0
 OnTable (Ok s) old new R = Told old new (R s)

@@ -5,8 +5,8 @@ use vub_queue::{Chain, Damage, PutFault};
 /// A step of one ring together with guest memory.
 #[derive(Clone, Copy, Debug, PartialEq, Eq)]
 pub enum TableRing {
-    /// Sets the guest addresses of the ring's three areas, and the next used index, which is the word that stands in guest
-    /// memory at the used ring, if it is there.
+    /// Sets the guest addresses of the ring's three areas, and the next used index, which is the word that stands in
+    /// guest memory at the used ring, if it is there.
     Info { desc: u64, avail: u64, used: u64 },
     /// Takes the next entry.
     Take,

@@ -197,11 +197,11 @@ fn play_info<R: RingState, L: DirtyLog>(
     }
 }
 
-/// A step of a ring together with guest memory. An Info sets the addresses, and the next used index that stands in memory
-/// at the used ring; it says Outside where that is not there, and where an entry is in flight it says Waits and changes
-/// nothing. Addresses that are misaligned are not set. A Take gives the next entry of a ring that is ready and enabled, has its
-/// addresses and no entry in flight, and from which fewer than 2^63 were taken since its base; else it says Nothing and
-/// changes nothing.
+/// A step of a ring together with guest memory. An Info sets the addresses, and the next used index that stands in
+/// memory at the used ring; it says Outside where that is not there, and where an entry is in flight it says Waits and
+/// changes nothing. Addresses that are misaligned are not set. A Take gives the next entry of a ring that is ready and
+/// enabled, has its addresses and no entry in flight, and from which fewer than 2^63 were taken since its base; else it
+/// says Nothing and changes nothing.
 ///
 /// # Errors
 /// Want of memory leaves ring and memory as they were.
@@ -231,8 +231,8 @@ pub fn play_table<R: RingState, L: DirtyLog>(
     }
 }
 
-/// Reads the counter of this event, if it is the kick of the ring: Serve where the ring is ready and enabled, else Quiet.
-/// Stale, and nothing is read, where it is not its kick.
+/// Reads the counter of this event, if it is the kick of the ring: Serve where the ring is ready and enabled, else
+/// Quiet. Stale, and nothing is read, where it is not its kick.
 ///
 /// # Errors
 /// `Fault` only where the host's count of faults rose; nothing changes.
@@ -350,8 +350,9 @@ fn play_use<R: RingState, L: DirtyLog, H: Host>(
     }
 }
 
-/// Uses the entry with this reply, and signals the call of the ring where the driver wants it; or holds the entry, where a
-/// byte of the use is outside guest memory or the ring has no addresses. A signal at which the host fails is passed over.
+/// Uses the entry with this reply, and signals the call of the ring where the driver wants it; or holds the entry,
+/// where a byte of the use is outside guest memory or the ring has no addresses. A signal at which the host fails is
+/// passed over.
 ///
 /// # Errors
 /// Want of memory leaves ring, memory and host as they were.

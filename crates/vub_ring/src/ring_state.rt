@@ -5,8 +5,8 @@ use crate::state::VringState;
 use vub_base::OutOfMemory;
 use vub_model::{RingOp, RingSaid};
 
-/// A ring that is changed by ops alone: its state, or a state that keeps a book of them. It says for how many ops it has
-/// room, its spare: an op that finds room is not refused memory.
+/// A ring that is changed by ops alone: its state, or a state that keeps a book of them. It says for how many ops it
+/// has room, its spare: an op that finds room is not refused memory.
 pub trait RingState {
     // the ring record
     ghost ring: { Self → Vring };

@@ -420,8 +420,8 @@ impl VringState {
         }
     }
 
-    /// Whether an entry may be taken: the ring is ready and enabled, has its addresses, no entry is in flight, and fewer
-    /// than 2^63 were taken.
+    /// Whether an entry may be taken: the ring is ready and enabled, has its addresses, no entry is in flight, and
+    /// fewer than 2^63 were taken.
     pub fn may_take(&self) -> bool
         ensures { result ≡ may_take self.now }
     {
@@ -448,8 +448,8 @@ impl VringState {
         needs_no_flight(op) && self.is_in_flight()
     }
 
-    /// Whether the ring takes this op now: an entry is taken only where none is in flight and fewer than 2^63 were taken;
-    /// a size is a power of two and at most the greatest, and addresses have their alignment.
+    /// Whether the ring takes this op now: an entry is taken only where none is in flight and fewer than 2^63 were
+    /// taken; a size is a power of two and at most the greatest, and addresses have their alignment.
     pub fn fits(&self, op: RingOp) -> bool
         ensures { result ≡ fits self.now op }
     {
@@ -548,12 +548,12 @@ impl VringState {
         }
     }
 
-    /// Applies an op. `Waits` exactly where an entry is in flight and the op is `SetReady(false)`, `SetSize`, `SetInfo` or
-    /// `SetBase`; nothing changes then. `GetBase` changes nothing and answers the number of the next entry, in 16 bits;
-    /// every other op answers `Done`. `SetBase` sets the base and the number of the next entry, raises the epoch, and
-    /// nothing is taken since. `Taken` counts an entry that is then in flight. `Put` raises the number of the next use,
-    /// and `Hold` keeps the entry for good. An op that the ring does not take ([`VringState::fits`]), or a base beyond
-    /// 2^63, changes nothing.
+    /// Applies an op. `Waits` exactly where an entry is in flight and the op is `SetReady(false)`, `SetSize`, `SetInfo`
+    /// or `SetBase`; nothing changes then. `GetBase` changes nothing and answers the number of the next entry, in 16
+    /// bits; every other op answers `Done`. `SetBase` sets the base and the number of the next entry, raises the epoch,
+    /// and nothing is taken since. `Taken` counts an entry that is then in flight. `Put` raises the number of the next
+    /// use, and `Hold` keeps the entry for good. An op that the ring does not take ([`VringState::fits`]), or a base
+    /// beyond 2^63, changes nothing.
     pub fn apply(&mut self, op: RingOp) -> RingSaid
         ensures said { result ≡ ring_said self.old op }
         ensures ring { self.new ≡ ring_after self.old op }

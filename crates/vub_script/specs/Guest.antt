@@ -11,7 +11,8 @@ use Rattle.vub_script.specs.Leaves.{is_text}
 use Rattle.vub_script.specs.Lists.{items_list}
 
 abbrev pub store_of : Data → Data → Data → Option Guest
-store_of o at b = u32_of o >>= λ target. number_of at >>= λ offset. bytes_of b >>= λ bytes. Some (Store target offset bytes)
+store_of o at b =
+    u32_of o >>= λ target. number_of at >>= λ offset. bytes_of b >>= λ bytes. Some (Store target offset bytes)
 
 abbrev pub signal_of : Data → Option Guest
 signal_of o = option_map Signal (u32_of o)

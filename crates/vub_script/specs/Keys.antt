@@ -20,7 +20,9 @@ object_keys_are p (object ms) = keys_are p ms
 -- ---- a script
 
 abbrev pub is_setup_key : List ℕ → Bool
-is_setup_key k = bytes_eq k (codes "objects") || bytes_eq k (codes "regions") || bytes_eq k (codes "rings") || bytes_eq k (codes "guest")
+is_setup_key k =
+    bytes_eq k (codes "objects") || bytes_eq k (codes "regions") || bytes_eq k (codes "rings") || bytes_eq k
+    (codes "guest")
 
 abbrev pub is_device_key : List ℕ → Bool
 is_device_key k = bytes_eq k (codes "max_size")
@@ -38,10 +40,12 @@ has_form d = object_keys_are is_key d
 
 abbrev pub is_ring_place_key : List ℕ → Bool
 is_ring_place_key k =
-    bytes_eq k (codes "queue") || bytes_eq k (codes "size") || bytes_eq k (codes "info") || bytes_eq k (codes "base") || bytes_eq k (codes "next_used")
+    bytes_eq k (codes "queue") || bytes_eq k (codes "size") || bytes_eq k (codes "info") || bytes_eq k (codes "base") ||
+    bytes_eq k (codes "next_used")
 
 abbrev pub is_ring_state_key : List ℕ → Bool
-is_ring_state_key k = bytes_eq k (codes "kick") || bytes_eq k (codes "call") || bytes_eq k (codes "ready") || bytes_eq k (codes "enabled")
+is_ring_state_key k =
+    bytes_eq k (codes "kick") || bytes_eq k (codes "call") || bytes_eq k (codes "ready") || bytes_eq k (codes "enabled")
 
 abbrev pub is_ring_key : List ℕ → Bool
 is_ring_key k = is_ring_place_key k || is_ring_state_key k

@@ -1,5 +1,7 @@
--- From bytes to a script: the draft that a text is, the limits on drafts, and the script that a draft is written out to.
-use Rattle.std.specs.Prelude.{ℕ, ◌+◌, ◌*◌, ◌&&◌, nat_le, Bool, if◌then◌else◌, List, [], ◌∷◌, ◌++◌, length, map, replicate, Option, None}
+-- From bytes to a script: the draft that a text is, the limits on drafts, and the script that a draft is written out
+-- to.
+use Rattle.std.specs.Prelude.{ℕ, ◌+◌, ◌*◌, ◌&&◌, nat_le, Bool, if◌then◌else◌, List, [], ◌∷◌, ◌++◌, length, map}
+use Rattle.std.specs.Prelude.{replicate, Option, None}
 use Rattle.std.specs.List.{range_with_len, repeat}
 use Rattle.std.specs.Str.{is_utf8}
 use Rattle.serde_json.specs.Read.{read}
@@ -37,7 +39,8 @@ are_turns_within listed rounds workers = nat_le (turn_total listed rounds worker
 
 -- at most 67108864 bytes in all contents together, and at most 4194304 turns
 unfoldable pub is_within : Draft → Bool
-is_within d = nat_le (content_total d.objects) 67108864 && are_turns_within (length d.listed) d.rounds (length d.device.masks)
+is_within d =
+    nat_le (content_total d.objects) 67108864 && are_turns_within (length d.listed) d.rounds (length d.device.masks)
 
 -- ---- what is written out
 

@@ -21,11 +21,12 @@ pub enum Input {
     TooLong,
 }
 
-/// Reads a source to its end, but no further than one byte past [`LIMIT`]: where so many come, a later fault is not met.
+/// Reads a source to its end, but no further than one byte past [`LIMIT`]: where so many come, a later fault is not
+/// met.
 ///
 /// # Errors
-/// [`SourceError::Failed`] only where the source's count of faults rose, and then no byte past [`LIMIT`] was taken; want
-/// of memory.
+/// [`SourceError::Failed`] only where the source's count of faults rose, and then no byte past [`LIMIT`] was taken;
+/// want of memory.
 pub fn read_input<S: Source>(alloc: Global, source: &mut S) -> Result<Input, SourceError>
     ensures whole { IfOk result (IsWholeInput (S.left source.old) (S.ended source.new)) }
     ensures long { IfOk result (IsLongInput (S.left source.old)) }

@@ -2,7 +2,8 @@
 use Rattle.std.specs.Prelude.{ℕ, Bool, true, false, List, ◌++◌, length, codes, decimal, count_by}
 use Rattle.vub_proto.specs.declared.used.Used.{Used}
 use Rattle.vub_model.specs.declared.label.Label.{Label}
-use Rattle.vub_model.specs.declared.label.Label.TheVariants.{Pass, Guest, Control, Poll, Event, Sweep, Hear, Take, Serve, Put}
+use Rattle.vub_model.specs.declared.label.Label.TheVariants.{Pass, Guest, Control, Poll, Event, Sweep, Hear, Take}
+use Rattle.vub_model.specs.declared.label.Label.TheVariants.{Serve, Put}
 use Rattle.vub_model.specs.declared.records.Take as records
 use Rattle.vub_model.specs.declared.records.Stop.{Stop}
 use Rattle.vub_model.specs.declared.records.Count.{Count}
@@ -25,10 +26,13 @@ is_played Put = true
 -- how many turns there were and how many were played, and whether all is at rest
 unfoldable pub turns_line : List Label → Bool → List ℕ
 turns_line labels rest =
-    codes "turns " ++ decimal (length labels) ++ codes " played " ++ decimal (count_by is_played labels) ++ codes " rest " ++ yes_no rest ++ codes "\n"
+    codes "turns " ++ decimal (length labels) ++ codes " played " ++ decimal (count_by is_played labels)
+    ++ codes " rest " ++ yes_no rest ++ codes "\n"
 
 abbrev pub take_place : records.Take → List ℕ
-take_place t = codes "take " ++ decimal t.queue ++ codes " " ++ decimal t.epoch ++ codes " " ++ decimal t.number ++ codes " head " ++ decimal t.head
+take_place t =
+    codes "take " ++ decimal t.queue ++ codes " " ++ decimal t.epoch ++ codes " " ++ decimal t.number ++ codes " head "
+    ++ decimal t.head
 
 abbrev pub take_content : records.Take → List ℕ
 take_content t = codes " request " ++ hex_text t.request ++ codes " room " ++ decimal t.room ++ codes "\n"
@@ -38,7 +42,9 @@ unfoldable pub take_line : records.Take → List ℕ
 take_line t = take_place t ++ take_content t
 
 abbrev pub use_place : Used → List ℕ
-use_place u = codes "use " ++ decimal u.queue ++ codes " " ++ decimal u.epoch ++ codes " " ++ decimal u.number ++ codes " head " ++ decimal u.head
+use_place u =
+    codes "use " ++ decimal u.queue ++ codes " " ++ decimal u.epoch ++ codes " " ++ decimal u.number ++ codes " head "
+    ++ decimal u.head
 
 abbrev pub use_content : Used → List ℕ
 use_content u = codes " length " ++ decimal (length u.reply) ++ codes " reply " ++ hex_text u.reply ++ codes "\n"
@@ -57,4 +63,5 @@ count_line c = codes "count " ++ decimal c.object ++ codes " " ++ decimal c.coun
 
 -- bytes that were written: object, place of the first, and the bytes
 unfoldable pub write_line : Span → List ℕ
-write_line s = codes "write " ++ decimal s.object ++ codes " " ++ decimal s.offset ++ codes " " ++ hex_text s.bytes ++ codes "\n"
+write_line s =
+    codes "write " ++ decimal s.object ++ codes " " ++ decimal s.offset ++ codes " " ++ hex_text s.bytes ++ codes "\n"

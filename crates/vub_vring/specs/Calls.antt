@@ -6,7 +6,9 @@ use Rattle.vub_base.specs.Told.{Told}
 use Rattle.vub_mem.specs.Memory.{Guest}
 use Rattle.vub_mem.specs.declared.errors.MemError.TheVariants as mem_error
 use Rattle.vub_event.specs.HostTable.{HostTable}
-use Rattle.vub_event.specs.HostCalls.{CreateEventCall, CreateListCall, SignalCall, ConsumeCall, AddCall, DeleteCall, ListenCall, UnlistenCall, ConsumeAsCall, FirstReadyCall, ClaimCall, release_after, member_for}
+use Rattle.vub_event.specs.HostCalls.{CreateEventCall, CreateListCall, SignalCall, ConsumeCall, AddCall, DeleteCall}
+use Rattle.vub_event.specs.HostCalls.{ListenCall, UnlistenCall, ConsumeAsCall, FirstReadyCall, ClaimCall, release_after}
+use Rattle.vub_event.specs.HostCalls.{member_for}
 use Rattle.vub_event.specs.declared.error.HostError.TheVariants as host_error
 use Rattle.vub_queue.specs.declared.took.Took.TheVariants as took
 use Rattle.vub_model.specs.declared.entry.Entry.{Entry}
@@ -47,8 +49,8 @@ use Rattle.vub_vring.specs.declared.ops.TableSaid.{TableSaid}
 use Rattle.vub_vring.specs.declared.ops.TableSaid.TheVariants as change
 use Rattle.vub_ring.specs.declared.ops.PartsError.{PartsError}
 
--- A call that was made says and leaves what the relation says, where what is held is told. One that was not made changes
--- nothing, told or not.
+-- A call that was made says and leaves what the relation says, where what is held is told. One that was not made
+-- changes nothing, told or not.
 abbrev pub Called : {A S : Type 0} → Result S PartsError → Option A → Option A → (S → A → A → Type 0) → Type 0
 Called (Ok s) old new R = Told old new (R s)
 Called (Err e) old new R = new ≡ old

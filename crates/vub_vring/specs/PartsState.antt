@@ -28,8 +28,8 @@ pub record PartsState (V D : Type 0) : Type 1 where
 abbrev pub HasFailed : {V D : Type 0} → PartsState V D → PartsState V D → Type 0
 HasFailed old new = Rose old.faults new.faults
 
--- A call that was made says and leaves what the relation says, where what is shared is told. One that was not made changes
--- nothing, told or not.
+-- A call that was made says and leaves what the relation says, where what is shared is told. One that was not made
+-- changes nothing, told or not.
 abbrev pub IsCall : {V D S : Type 0} → PartsState V D → PartsState V D → Result S PartsError
     → (S → Shared V → Shared V → Type 0) → Type 0
 IsCall old new result R = Called result old.shared new.shared R
@@ -56,8 +56,8 @@ pub record Keeps {V D S : Type 0} (old new : PartsState V D) (result : Result S 
   pub loan : new.loan ≡ old.loan
   pub constants : new.constants ≡ old.constants
 
--- What a call of the device leaves: what is shared, what is lent and the constants stay, and the count of refusals never
--- falls.
+-- What a call of the device leaves: what is shared, what is lent and the constants stay, and the count of refusals
+-- never falls.
 pub record KeepsShared {V D S : Type 0} (old new : PartsState V D) (result : Result S PartsError) : Type 0 where
   pub shared : new.shared ≡ old.shared
   pub faults : CountsFaults old.faults new.faults old.NeverFails new.NeverFails result
@@ -75,8 +75,8 @@ pub record IsUntouched {V D : Type 0} (old new : PartsState V D) : Type 0 where
   pub loan : new.loan ≡ old.loan
   pub constants : new.constants ≡ old.constants
 
--- What stays over any number of calls: the counts of faults and of refusals never fall, a host with no call to fail still
--- has none, and what is lent and the constants stay.
+-- What stays over any number of calls: the counts of faults and of refusals never fall, a host with no call to fail
+-- still has none, and what is lent and the constants stay.
 pub record Lasts {V D : Type 0} (old new : PartsState V D) : Type 0 where
   pub later : old.faults ≤ new.faults
   pub refusals : old.refusals ≤ new.refusals

@@ -1,12 +1,15 @@
 -- A worker that is opened: what is held with its interest list and its bell, and why it can't be opened.
-use Rattle.std.specs.Prelude.{◌≡◌, ◌⊎◌, ℕ, ◌≤◌, true, if◌then◌else◌, [], ◌∷◌, ◌++◌, length, slice_index_or, Option, Some, None, is_none, Result, IfErr}
+use Rattle.std.specs.Prelude.{◌≡◌, ◌⊎◌, ℕ, ◌≤◌, true, if◌then◌else◌, [], ◌∷◌, ◌++◌, length, slice_index_or, Option}
+use Rattle.std.specs.Prelude.{Some, None, is_none, Result, IfErr}
 use Rattle.vub_base.specs.Causes.{Rose}
 use Rattle.vub_base.specs.Told.{Told}
 use Rattle.vub_event.specs.declared.member.Member.{Member}
 use Rattle.vub_event.specs.HostTable.{HostTable, has_event}
 use Rattle.vub_event.specs.HostCalls.{new_event, create_list_after, create_event_after, add_refusal, add_after}
 use Rattle.vub_model.specs.declared.cause.VringEpollError.{VringEpollError}
-use Rattle.vub_model.specs.declared.cause.VringEpollError.TheVariants.{EpollCreateFd, RegisterExitEvent, NewEventConsumerNotifier, RegisterVringEnabledEvent, OutOfMemory}
+use Rattle.vub_model.specs.declared.cause.VringEpollError.TheVariants.{EpollCreateFd, RegisterExitEvent}
+use Rattle.vub_model.specs.declared.cause.VringEpollError.TheVariants.{NewEventConsumerNotifier}
+use Rattle.vub_model.specs.declared.cause.VringEpollError.TheVariants.{RegisterVringEnabledEvent, OutOfMemory}
 use Rattle.vub_model.specs.declared.constants.Constants.{Constants}
 use Rattle.vub_model.specs.declared.wiring.Opened.{Opened}
 use Rattle.vub_model.specs.Shared.{Shared}

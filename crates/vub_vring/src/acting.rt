@@ -38,8 +38,8 @@ fn signal_event(host: &mut MemHost, object: u32)
 }
 
 impl<L: DirtyLog> Store<L> {
-    /// Plays an action of the guest. A store that reaches past the end of its content does nothing; a full counter stays.
-    /// `V` is the service's type, which the action leaves alone.
+    /// Plays an action of the guest. A store that reaches past the end of its content does nothing; a full counter
+    /// stays. `V` is the service's type, which the action leaves alone.
     pub fn act<V>(&mut self, action: &Guest)
         ensures shared { self.old.host.plan.calls.items ≡ [] → (v : V)
             → shared_of self.new v ≡ acted (shared_of self.old v) action.now }

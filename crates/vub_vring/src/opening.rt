@@ -117,13 +117,13 @@ fn join_bell<P: Parts>(
     }
 }
 
-/// Opens a worker: makes its interest list, adds its exit object, if it has one, and a new event, its bell, both with the
-/// number of queues as their token.
+/// Opens a worker: makes its interest list, adds its exit object, if it has one, and a new event, its bell, both with
+/// the number of queues as their token.
 ///
 /// # Errors
 /// `EpollCreateFd` for the list, `RegisterExitEvent` for the exit object, `NewEventConsumerNotifier` for the bell and
-/// `RegisterVringEnabledEvent` for adding it, each only where the host's count of faults rose; want of memory at any step.
-/// What was made before stays in the host, and nothing else changes.
+/// `RegisterVringEnabledEvent` for adding it, each only where the host's count of faults rose; want of memory at any
+/// step. What was made before stays in the host, and nothing else changes.
 pub fn open_worker<P: Parts>(
     alloc: Global,
     parts: &mut P,

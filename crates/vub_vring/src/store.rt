@@ -61,8 +61,8 @@ pub(crate) fn ring_at(
     }
 }
 
-/// What a ring that is not there says together with guest memory: a Take finds Nothing, and an Info says whether the used
-/// index could be read.
+/// What a ring that is not there says together with guest memory: a Take finds Nothing, and an Info says whether the
+/// used index could be read.
 pub fn closed_table_said<L: DirtyLog>(memory: &GuestMemory<L>, op: TableRing) -> TableRingSaid
     ensures row { ClosedPlays op result memory.now.guest }
     ensures room { HasRoom result }
