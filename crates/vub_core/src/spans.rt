@@ -42,8 +42,12 @@ fn span_of(
     end: usize,
 ) -> Result<Span, OutOfMemory>
     requires { (start ≤ end) × (end ≤ length content.now) }
-    ensures { IfOk result (λ s. s ≡ record { object = object; offset = start; bytes = take (end - start)
-        (drop start content.now) }) }
+    ensures { IfOk result (λ s. s ≡ record {
+      object = object;
+      offset = start;
+      bytes = take (end - start)
+          (drop start content.now);
+    }) }
 {
     Ok(Span {
         object,
