@@ -32,9 +32,9 @@ refused_in (c ∷ cs) = refusal_in c.outcome + refused_in cs
 abbrev pub RoseBy : ℕ → ℕ → ℕ → Type 0
 RoseBy n before now = min (before + n) (2 ^ 64 - 1) ≤ now
 
--- These calls were made of a device, one after the other, and no other was. Where it tells its value, each outcome is what
--- the device meant to say at the value that the calls before left, and its value is the one that they all leave. Its count
--- of refusals rose at each refused call, and it never fell.
+-- These calls were made of a device, one after the other, and no other was. Where it tells its value, each outcome is
+-- what the device meant to say at the value that the calls before left, and its value is the one that they all leave.
+-- Its count of refusals rose at each refused call, and it never fell.
 pub record HasMade {D : Type 0} (t : Telling D) (old new : DeviceState D) (cs : List Call) : Type 0 where
   pub told : Told old.value new.value (λ before now. Tells t before cs × (now ≡ moved_by t before cs))
   pub later : old.refusals ≤ new.refusals

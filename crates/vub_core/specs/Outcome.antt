@@ -18,8 +18,8 @@ use Rattle.vub_core.specs.DeviceRun.{DeviceState, HasMade}
 
 -- The headline. The run handed back shows the labels of plays that are a run of the machine of party turns for this
 -- schedule, from the opening of the set-up: each turn passes only where its party has no step, and each poll takes the
--- ready member with the least number. The run is faithful: what that says of entries, uses, writes and kicks stands there.
--- Service and device are as their calls in this run left them.
+-- ready member with the least number. The run is faithful: what that says of entries, uses, writes and kicks stands
+-- there. Service and device are as their calls in this run left them.
 pub record IsPlayed {V D : Type 0} (m : Meaning V) (t : Telling D) (constants : Constants) (setup : Setup)
     (schedule : List ℕ) (v end : V) (before now : DeviceState D) (run : Run) : Type 0 where
   pub valid : IsValid constants setup
@@ -32,9 +32,9 @@ pub record IsPlayed {V D : Type 0} (m : Meaning V) (t : Telling D) (constants : 
   pub made : HasMade t before now (calls m schedule plays (opening constants setup v))
   pub faithful : IsFaithful m constants setup v schedule plays closing
 
--- Memory was refused after this many turns. They are a run for the front of the schedule, from the opening of the set-up,
--- each of whose polls takes the ready member with the least number, as in the run of the whole schedule; and service and
--- device are as their calls in these turns left them. A turn was finished only of a valid set-up.
+-- Memory was refused after this many turns. They are a run for the front of the schedule, from the opening of the
+-- set-up, each of whose polls takes the ready member with the least number, as in the run of the whole schedule; and
+-- service and device are as their calls in these turns left them. A turn was finished only of a valid set-up.
 pub record IsCutShort {V D : Type 0} (m : Meaning V) (t : Telling D) (constants : Constants) (setup : Setup)
     (schedule : List ℕ) (v end : V) (before now : DeviceState D) (done : ℕ) : Type 0 where
   pub valid : 0 < done → IsValid constants setup
@@ -46,9 +46,10 @@ pub record IsCutShort {V D : Type 0} (m : Meaning V) (t : Telling D) (constants 
   pub value : end ≡ closing.shared.service
   pub made : HasMade t before now (calls m (take done schedule) plays (opening constants setup v))
 
--- why there is no run: the first test that the set-up fails, and then neither service nor device was asked for more than
--- the device's constants; or want of memory
-abbrev pub IsRefused : {V D : Type 0} → Meaning V → Telling D → Constants → Setup → List ℕ → V → V → DeviceState D → DeviceState D → DriveFault → Type 0
+-- why there is no run: the first test that the set-up fails, and then neither service nor device was asked for more
+-- than the device's constants; or want of memory
+abbrev pub IsRefused : {V D : Type 0} → Meaning V → Telling D → Constants → Setup → List ℕ → V → V → DeviceState D
+    → DeviceState D → DriveFault → Type 0
 IsRefused m t constants setup schedule v end before now (drive_fault.Setup fault) =
     (fault_of constants setup ≡ Some fault) × (end ≡ v) × (now ≡ before)
 IsRefused m t constants setup schedule v end before now (drive_fault.OutOfMemory done) =

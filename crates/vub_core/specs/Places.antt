@@ -23,13 +23,15 @@ pub record IsEventPlace (r : Ring) (place : EventPlace) : Type 0 where
 
 -- what a take that finds nothing may write
 pub record IsEventFootprint (r : Vring) (f : Footprint) : Type 0 where
-  pub some : (may_take r && r.queue.event_idx) ≡ true → (place : EventPlace) × (f ≡ Event place) × IsEventPlace r.queue place
+  pub some :
+      (may_take r && r.queue.event_idx) ≡ true → (place : EventPlace) × (f ≡ Event place) × IsEventPlace r.queue place
   pub none : (may_take r && r.queue.event_idx) ≡ false → f ≡ Nothing
 
 -- what the next step of a worker in this phase may write
 abbrev pub IsFootprint : List Vring → Phase → Footprint → Type 0
 IsFootprint rings (Served e reply queues) f =
-    has_addresses (slice_index_or rings e.queue closed_ring) ≡ true → (place : UsePlace) × (f ≡ Use place) × IsUsePlace (slice_index_or rings e.queue closed_ring).queue place
+    has_addresses (slice_index_or rings e.queue closed_ring) ≡ true →
+    (place : UsePlace) × (f ≡ Use place) × IsUsePlace (slice_index_or rings e.queue closed_ring).queue place
 IsFootprint rings (Serving []) f = f ≡ Nothing
 IsFootprint rings (Serving (queue ∷ rest)) f = IsEventFootprint (slice_index_or rings queue closed_ring) f
 IsFootprint rings phase f = f ≡ Nothing

@@ -8,8 +8,8 @@ use Rattle.vub_model.specs.Service.{Meaning}
 use Rattle.vub_model.specs.World.{World}
 use Rattle.vub_core.specs.DeviceRun.{DeviceState, HasMade}
 
--- there are plays with these labels that are a run, each of whose polls takes the ready member with the least number, and
--- whose calls the device has made
+-- There are plays with these labels that are a run, each of whose polls takes the ready member with the least number,
+-- and whose calls were made of the device.
 pub record HasPlayed {V D : Type 0} (m : Meaning V) (t : Telling D) (schedule : List ℕ) (labels : List Label)
     (old new : World V) (before now : DeviceState D) : Type 0 where
   pub plays : List Play

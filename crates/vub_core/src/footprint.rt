@@ -32,7 +32,8 @@ pub(crate) enum Footprint {
 
 /// The words that the use of an entry of this queue writes.
 fn use_of(queue: &Queue) -> Footprint
-    ensures { is_some queue.now.addresses ≡ true → (place : UsePlace) × (result ≡ Footprint.Use place) × IsUsePlace queue.now place }
+    ensures { is_some queue.now.addresses ≡ true → (place : UsePlace) × (result ≡ Footprint.Use place)
+        × IsUsePlace queue.now place }
 {
     match queue.addresses() {
         None => Footprint::Nothing,
@@ -45,7 +46,8 @@ fn use_of(queue: &Queue) -> Footprint
 
 /// The word that a take of this ring writes where nothing is left.
 fn event_of(ring: &VringState) -> Footprint
-    ensures some { (may_take ring.now && ring.now.queue.event_idx) ≡ true → (place : EventPlace) × (result ≡ Footprint.Event place) × IsEventPlace ring.now.queue place }
+    ensures some { (may_take ring.now && ring.now.queue.event_idx) ≡ true → (place : EventPlace)
+        × (result ≡ Footprint.Event place) × IsEventPlace ring.now.queue place }
     ensures none { (may_take ring.now && ring.now.queue.event_idx) ≡ false → result ≡ Footprint.Nothing }
 {
     if !ring.may_take() || !ring.get_queue().event_idx_enabled() {

@@ -29,7 +29,8 @@ pub(crate) fn open_handlers(
     count: u32,
 ) -> Result<Vec<VringEpollHandler>, OutOfMemory>
     requires { count + length constants.now.masks < 2 ^ 32 }
-    ensures handlers { IfOk result (λ hs. hs.items ≡ map (λ w. new_handler constants.now (opened_worker count constants.now.exits w)) (range_with_len 0 (length constants.now.masks))) }
+    ensures handlers { IfOk result (λ hs. hs.items ≡ map (λ w. new_handler constants.now
+        (opened_worker count constants.now.exits w)) (range_with_len 0 (length constants.now.masks))) }
     ensures workers { IfOk result (λ hs. AreHandlers (wiring_of constants.now count) 0 hs.items) }
     ensures phases { IfOk result (λ hs. map (λ h. phase_of h) hs.items ≡ map (λ mask. Idle) constants.now.masks) }
 {
@@ -51,9 +52,12 @@ fn open_machine(
 ) -> Result<Machine, OutOfMemory>
     requires numbers { length setup.now.objects + length constants.now.masks < 2 ^ 32 }
     requires valid { fault_of constants.now setup.now ≡ None }
-    requires guest { memory.guest ≡ record { regions = map given_region setup.now.regions; contents = contents_from 0 setup.now.objects } }
-    ensures world { IfOk result (λ m. opened_world constants.now setup.now m ≡ opening constants.now setup.now (tt {0})) }
-    ensures workers { IfOk result (λ m. AreHandlers (wiring_of constants.now (length setup.now.objects)) 0 m.workers.items) }
+    requires guest { memory.guest
+        ≡ record { regions = map given_region setup.now.regions; contents = contents_from 0 setup.now.objects } }
+    ensures world { IfOk result (λ m. opened_world constants.now setup.now m
+        ≡ opening constants.now setup.now (tt {0})) }
+    ensures workers { IfOk result (λ m. AreHandlers (wiring_of constants.now
+        (length setup.now.objects)) 0 m.workers.items) }
     ensures sound { IfOk result (λ m. NeverFails m.store.host) }
 {
     let store = open_store(alloc, setup, constants, memory)?;
@@ -78,8 +82,10 @@ pub(crate) fn open(
 ) -> Result<Machine, DriveFault>
     ensures refused { IfErr result (λ f. IsRefusal (fault_of constants.now setup.now) f) }
     ensures valid { OnOk result (fault_of constants.now setup.now ≡ None) }
-    ensures world { IfOk result (λ m. opened_world constants.now setup.now m ≡ opening constants.now setup.now (tt {0})) }
-    ensures workers { IfOk result (λ m. AreHandlers (wiring_of constants.now (length setup.now.objects)) 0 m.workers.items) }
+    ensures world { IfOk result (λ m. opened_world constants.now setup.now m
+        ≡ opening constants.now setup.now (tt {0})) }
+    ensures workers { IfOk result (λ m. AreHandlers (wiring_of constants.now
+        (length setup.now.objects)) 0 m.workers.items) }
     ensures sound { IfOk result (λ m. NeverFails m.store.host) }
     ensures numbers { OnOk result (length setup.now.objects + length constants.now.masks < 2 ^ 32) }
 {

@@ -75,8 +75,8 @@ fn turn<D: VhostUserBackendMut, V: Service>(
 /// Plays a schedule, and appends the label of each turn.
 ///
 /// # Errors
-/// Want of memory: the turns whose labels are there are finished, and service and device are as they left them. The machine
-/// may have made a further step that could not be recorded, which was none of the service and none of the device.
+/// Want of memory: the turns whose labels are there are finished, and service and device are as they left them. The
+/// machine may have made a further Take whose request could not be copied, which asks neither of them.
 pub(crate) fn play<D: VhostUserBackendMut, V: Service>(
     alloc: Global,
     machine: &mut Machine,

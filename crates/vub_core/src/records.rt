@@ -1,8 +1,8 @@
-ghost use Rattle.std.specs.Prelude.{◌≡◌, ◌⊎◌, ◌++◌, ◌∷◌, [], map, OnOk, OnErr, IfOk, IsSome};
+ghost use Rattle.std.specs.Prelude.{◌≡◌, ◌++◌, ◌∷◌, [], map, OnOk, OnErr, IfOk};
 ghost use Rattle.vub_model.specs.declared.play.Play.{Play};
 ghost use Rattle.vub_model.specs.World.{takes_by, used_of};
 ghost use Rattle.vub_model.specs.Opening.{unwritten};
-ghost use Rattle.vub_core.specs.Recorded.{uses_in, left_none, IsWritten};
+ghost use Rattle.vub_core.specs.Recorded.{HasRoom, uses_in, left_none, IsWritten};
 
 use crate::footprint::Footprint;
 use crate::written::Written;
@@ -21,36 +21,42 @@ pub(crate) struct Records {
     pub written: Written,
 }
 
-/// Appends the entry that a Take gave, if it gave one.
+/// Appends the entry that a Take gave, if it gave one. There is room for it.
+///
+/// # Errors
+/// Want of memory for its request.
 fn push_take(
     alloc: Global,
     takes: &mut Vec<Take>,
     play: &Play,
     phase: &Phase,
 ) -> Result<(), OutOfMemory>
+    requires { HasRoom takes.old }
     ensures ok { OnOk result (takes.new.items ≡ takes.old.items ++ takes_by play.now phase.now) }
     ensures err { OnErr result (play.now ≡ Play.Take) }
 {
     match (play, phase) {
         (Play::Take, Phase::Taken(entry, _)) => {
             let request = Bytes::from_slice(alloc, entry.chain.request.as_slice())?;
-            takes.push(Take {
+            let take = Take {
                 queue: entry.queue,
                 epoch: entry.epoch,
                 number: entry.number,
                 head: entry.chain.head,
                 request,
                 room: entry.chain.room,
-            })?;
+            };
+            takes.push(take).unwrap();
             Ok(())
         }
         _ => Ok(()),
     }
 }
 
-/// Appends the use of an entry with its reply.
-fn push_use(uses: &mut Vec<Used>, finished: Finished) -> Result<(), OutOfMemory>
-    ensures { OnOk result (uses.new.items ≡ uses.old.items ++ used_of finished.entry finished.reply ∷ []) }
+/// Appends the use of an entry with its reply. There is room for it.
+fn push_use(uses: &mut Vec<Used>, finished: Finished)
+    requires { HasRoom uses.old }
+    ensures { uses.new.items ≡ uses.old.items ++ used_of finished.entry finished.reply ∷ [] }
 {
     let Finished { entry, reply } = finished;
     uses.push(Used {
@@ -59,18 +65,17 @@ fn push_use(uses: &mut Vec<Used>, finished: Finished) -> Result<(), OutOfMemory>
         number: entry.number,
         head: entry.chain.head,
         reply,
-    })?;
-    Ok(())
+    })
+    .unwrap();
 }
 
-/// Appends the use that a step made, if it made one.
-fn push_finished(uses: &mut Vec<Used>, finished: Option<Finished>) -> Result<(), OutOfMemory>
-    ensures ok { OnOk result (uses.new.items ≡ uses.old.items ++ uses_in finished) }
-    ensures err { OnErr result (IsSome finished) }
+/// Appends the use that a step made, if it made one. There is room for it.
+fn push_finished(uses: &mut Vec<Used>, finished: Option<Finished>)
+    requires { HasRoom uses.old }
+    ensures { uses.new.items ≡ uses.old.items ++ uses_in finished }
 {
-    match finished {
-        None => Ok(()),
-        Some(finished) => push_use(uses, finished),
+    if let Some(finished) = finished {
+        push_use(uses, finished);
     }
 }
 
@@ -130,11 +135,27 @@ impl Records {
         })
     }
 
-    /// Records a worker's step of this play, which could write the words of the footprint, ended in this phase and
-    /// finished this entry.
+    /// Makes room for one more take and one more use.
     ///
     /// # Errors
-    /// Want of memory, at a step that took or finished an entry. The record of the step is lost then.
+    /// Want of memory leaves what was recorded.
+    pub fn reserve(&mut self) -> Result<(), OutOfMemory>
+        ensures room { OnOk result (HasRoom self.new.takes × HasRoom self.new.uses) }
+        ensures takes { self.new.takes.items ≡ self.old.takes.items }
+        ensures uses { self.new.uses.items ≡ self.old.uses.items }
+        ensures written { self.new.written ≡ self.old.written }
+    {
+        self.takes.reserve(1)?;
+        self.uses.reserve(1)?;
+        Ok(())
+    }
+
+    /// Records a worker's step of this play, which could write the words of the footprint, ended in this phase and
+    /// finished this entry. There is room for a take and a use.
+    ///
+    /// # Errors
+    /// Want of memory for the request of an entry that was taken, which is known only now. The record of the step is lost
+    /// then.
     pub fn record(
         &mut self,
         alloc: Global,
@@ -144,13 +165,15 @@ impl Records {
         phase: &Phase,
         finished: Option<Finished>,
     ) -> Result<(), OutOfMemory>
+        requires room { HasRoom self.old.takes × HasRoom self.old.uses }
         ensures takes { OnOk result (self.new.takes.items ≡ self.old.takes.items ++ takes_by play.now phase.now) }
         ensures uses { OnOk result (self.new.uses.items ≡ self.old.uses.items ++ uses_in finished) }
-        ensures err { OnErr result ((play.now ≡ Play.Take) ⊎ IsSome finished) }
-        ensures written { IsWritten memory.now.guest.regions footprint play.now phase.now finished self.old.written self.new.written }
+        ensures err { OnErr result (play.now ≡ Play.Take) }
+        ensures written { IsWritten memory.now.guest.regions footprint play.now phase.now finished
+            self.old.written self.new.written }
     {
         flag(&mut self.written, memory, footprint, play, phase, &finished);
-        push_finished(&mut self.uses, finished)?;
+        push_finished(&mut self.uses, finished);
         push_take(alloc, &mut self.takes, play, phase)
     }
 }

@@ -42,7 +42,12 @@ fn span_of(
     end: usize,
 ) -> Result<Span, OutOfMemory>
     requires { (start ≤ end) × (end ≤ length content.now) }
-    ensures { IfOk result (λ s. s ≡ record { object = object; offset = start; bytes = take (end - start) (drop start content.now) }) }
+    ensures { IfOk result (λ s. s ≡ record {
+      object = object;
+      offset = start;
+      bytes = take (end - start)
+          (drop start content.now);
+    }) }
 {
     Ok(Span {
         object,
@@ -59,7 +64,8 @@ fn push_runs(
     flags: &[bool],
     content: &[u8],
 ) -> Result<(), OutOfMemory>
-    ensures { (all : List (List Bool)) → slice_index_or all object [] ≡ flags.now → OnOk result (spans.new.items ≡ spans.old.items ++ spans_in all object 0 content.now) }
+    ensures { (all : List (List Bool)) → slice_index_or all object [] ≡ flags.now
+        → OnOk result (spans.new.items ≡ spans.old.items ++ spans_in all object 0 content.now) }
 {
     let mut at = 0;
     while at < content.len() {
@@ -89,7 +95,9 @@ fn push_content(
     flags: &[bool],
     memory: &GuestMemory<()>,
 ) -> Result<(), OutOfMemory>
-    ensures { (all : List (List Bool)) → slice_index_or all object [] ≡ flags.now → OnOk result (spans.new.items ≡ spans.old.items ++ spans_in all object 0 (content_of memory.now.guest.contents object)) }
+    ensures { (all : List (List Bool)) → slice_index_or all object [] ≡ flags.now
+        → OnOk result (spans.new.items ≡ spans.old.items ++ spans_in all object 0
+        (content_of memory.now.guest.contents object)) }
 {
     if has_flag(flags) {
         push_runs(alloc, spans, object, flags, memory.content(object))

@@ -75,7 +75,8 @@ fn play_worker<'a, D: VhostUserBackendMut, V: Service>(
     ensures made { ForHandler worker.old (λ g k. IfOk result (λ l. HasMade (telling_by D.VhostUserBackendMut)
         (state_by D.VhostUserBackendMut device.old) (state_by D.VhostUserBackendMut device.new)
         (heard_in k (phase_of worker.old) l))) }
-    ensures finished { IfOk result (λ l. worker.new.finished ≡ finished_by l (phase_of worker.old) (phase_of worker.new)) }
+    ensures finished { IfOk result (λ l. worker.new.finished
+        ≡ finished_by l (phase_of worker.old) (phase_of worker.new)) }
     ensures same { SameWorker worker.old worker.new }
     ensures sound { NeverFails store.new.host }
     ensures service { OnErr result (service.new ≡ service.old) }
@@ -94,10 +95,11 @@ fn play_worker<'a, D: VhostUserBackendMut, V: Service>(
     }
 }
 
-/// This worker plays the step that it has, and the machine records it.
+/// This worker plays the step that it has, and the machine records it. Room for the record is made before the step.
 ///
 /// # Errors
-/// Want of memory leaves service and device as they were. The step may have been made and not recorded.
+/// Want of memory leaves service and device as they were. A Take may have been made and not recorded: the bytes of its
+/// request are known only then.
 pub(crate) fn worker_turn<D: VhostUserBackendMut, V: Service>(
     alloc: Global,
     machine: &mut Machine,
@@ -107,7 +109,8 @@ pub(crate) fn worker_turn<D: VhostUserBackendMut, V: Service>(
     worker: u32,
 ) -> Result<Play, OutOfMemory>
     requires { NeverFails machine.old.store.host }
-    ensures turn { (guest : List Guest) → ForWiring machine.old (λ g control. IfOk result (λ l. Turn (meaning_by V.Service)
+    ensures turn { (guest : List Guest) → ForWiring machine.old (λ g control. IfOk result
+        (λ l. Turn (meaning_by V.Service)
         (world_of g control guest machine.old service.old) (Party.Worker worker) l
         (world_of g control guest machine.new service.new))) }
     ensures least { (guest : List Guest) → ForWiring machine.old (λ g control. IfOk result (λ l.
@@ -126,6 +129,7 @@ pub(crate) fn worker_turn<D: VhostUserBackendMut, V: Service>(
     if worker as usize >= machine.workers.len() {
         return Ok(Play::Pass);
     }
+    machine.records.reserve()?;
     let handler = &mut machine.workers[worker as usize];
     let footprint = next_footprint(machine.store.rings.as_slice(), handler.phase());
     let play = play_worker(

@@ -89,7 +89,8 @@ impl Written {
 
     /// Flags the bytes that a write to this range of guest addresses changes, if it is covered.
     pub fn flag_range(&mut self, memory: &GuestMemory<()>, addr: u64, len: u64)
-        ensures { covers memory.now.guest.regions addr len ≡ true → self.new ≡ with_spots self.old (spots_of memory.now.guest.regions addr len) }
+        ensures { covers memory.now.guest.regions addr len ≡ true
+            → self.new ≡ with_spots self.old (spots_of memory.now.guest.regions addr len) }
     {
         let mut at = addr;
         let mut left = len;
@@ -108,7 +109,8 @@ impl Written {
 
     /// Flags the bytes of the segments that a reply fills, if they are covered.
     pub fn flag_room(&mut self, memory: &GuestMemory<()>, segments: &[Segment], reply: &[u8])
-        ensures { room_covers memory.now.guest.regions segments.now reply.now ≡ true → self.new ≡ with_spots self.old (reply_spots memory.now.guest.regions segments.now reply.now) }
+        ensures { room_covers memory.now.guest.regions segments.now reply.now ≡ true
+            → self.new ≡ with_spots self.old (reply_spots memory.now.guest.regions segments.now reply.now) }
     {
         let mut rest = reply;
         for segment in segments {
@@ -121,7 +123,8 @@ impl Written {
     /// Flags `len` bytes that lie `offset` behind an address, if they are covered.
     pub fn flag_behind(&mut self, memory: &GuestMemory<()>, base: u64, offset: u64, len: u64)
         requires { 0 < len }
-        ensures { covers memory.now.guest.regions (base + offset) len ≡ true → self.new ≡ with_spots self.old (spots_of memory.now.guest.regions (base + offset) len) }
+        ensures { covers memory.now.guest.regions (base + offset) len ≡ true
+            → self.new ≡ with_spots self.old (spots_of memory.now.guest.regions (base + offset) len) }
     {
         if let Some(addr) = memory.locate(base, offset, len) {
             self.flag_range(memory, addr, len);
@@ -137,7 +140,9 @@ impl Written {
         chain: &Chain,
         reply: &[u8],
     )
-        ensures { (r : Ring) (wanted answer : Bool) → IsUsePlace r place → put_answer memory.now.guest.regions r chain.now reply.now wanted ≡ Ok answer → self.new ≡ with_spots self.old (put_spots memory.now.guest.regions r chain.now reply.now) }
+        ensures { (r : Ring) (wanted answer : Bool) → IsUsePlace r place
+            → put_answer memory.now.guest.regions r chain.now reply.now wanted ≡ Ok answer
+            → self.new ≡ with_spots self.old (put_spots memory.now.guest.regions r chain.now reply.now) }
     {
         self.flag_room(memory, chain.segments.as_slice(), reply);
         self.flag_behind(memory, place.used, 4 + 8 * place.slot as u64, 8);
@@ -146,7 +151,8 @@ impl Written {
 
     /// Flags the word avail_event of a ring that lies at `place` (virtio 1.2, section 2.7.10), if it is covered.
     pub fn flag_event(&mut self, memory: &GuestMemory<()>, place: EventPlace)
-        ensures { (r : Ring) → IsEventPlace r place → covers memory.now.guest.regions (avail_event_at r) 2 ≡ true → self.new ≡ with_spots self.old (spots_of memory.now.guest.regions (avail_event_at r) 2) }
+        ensures { (r : Ring) → IsEventPlace r place → covers memory.now.guest.regions (avail_event_at r) 2 ≡ true
+            → self.new ≡ with_spots self.old (spots_of memory.now.guest.regions (avail_event_at r) 2) }
     {
         self.flag_behind(memory, place.used, 4 + 8 * place.size as u64, 2);
     }

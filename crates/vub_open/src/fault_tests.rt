@@ -1,5 +1,3 @@
-ghost use Rattle.std.specs.Prelude.{ℕ, Option, Some, None, ◌==◌, if◌then◌else◌};
-
 use crate::constants::read_constants;
 use crate::validation::validate;
 use std::alloc::Global;
@@ -10,7 +8,7 @@ use vub_mem::Region;
 use vub_model::{
     Constants, DriveFault, GivenRegion, GivenRing, Guest, Info, Object, Setup, SetupFault,
 };
-use vub_proto::VhostUserBackendMut;
+use vub_proto::FixedDevice;
 
 /// An object of a case: an event, or a content of this many zeros.
 #[derive(Clone, Copy)]
@@ -562,62 +560,25 @@ fn a_sound_set_up_has_its_memory(rt: HostRuntime) -> Result<(), Fail> {
     Ok(())
 }
 
-/// A device with these masks, whose worker 65 has exit object 9.
-#[derive(Drop)]
-struct Wide {
-    masks: Listed<u64>,
-}
-
-impl VhostUserBackendMut for Wide {
-    ghost queue_count = { λ d. 3 };
-
-    ghost greatest_size = { λ d. 256 };
-
-    ghost offered = { λ d. 5 };
-
-    ghost protocol_offered = { λ d. 6 };
-
-    ghost masks = { λ d. d.masks };
-
-    ghost exit_of = { λ d worker. if worker == 65 then Some 9 else None };
-
-    ghost refusal_count = { λ d. 0 };
-
-    fn num_queues(&self) -> usize {
-        3
-    }
-
-    fn max_queue_size(&self) -> usize {
-        256
-    }
-
-    fn features(&self) -> u64 {
-        5
-    }
-
-    fn protocol_features(&self) -> u64 {
-        6
-    }
-
-    fn queues_per_thread(&self, alloc: Global) -> Result<Vec<u64>, OutOfMemory> {
-        let masks = Vec::from_slice(alloc, self.masks.as_slice())?;
-        Ok(masks)
-    }
-
-    fn exit_event(&self, worker: usize) -> Option<u32> {
-        if worker == 65 { Some(9) } else { None }
-    }
-
-    fn refusals(&self) -> u64 {
-        0
-    }
+/// A device of 66 workers, whose worker 65 has exit object 9.
+fn wide_device(alloc: Global) -> Result<FixedDevice, OutOfMemory> {
+    let mut exits = vec![in alloc; None; 66]?;
+    exits[65] = Some(9);
+    Ok(FixedDevice {
+        queues: 3,
+        max: 256,
+        features: 5,
+        protocol: 6,
+        masks: Listed::from_vec(vec![in alloc; 7u64; 66]?),
+        exits: Listed::from_vec(exits),
+        refusals: 0,
+    })
 }
 
 #[test]
 fn each_worker_is_asked_for_its_exit_object(rt: HostRuntime) -> Result<(), Fail> {
     let alloc = rt.alloc();
-    let masks = Listed::from_vec(vec![in alloc; 7u64; 66]?);
-    let constants = read_constants(alloc, &Wide { masks })?;
+    let constants = read_constants(alloc, &wide_device(alloc)?)?;
     assert_eq!(rt; constants.queues, 3);
     assert_eq!(rt; constants.max, 256);
     assert_eq!(rt; constants.features, 5);

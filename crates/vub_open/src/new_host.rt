@@ -53,7 +53,8 @@ fn flags_of(object: &Object) -> u32
 #[tactic(auto, unfolding(vub_event::specs::HostCalls::create_event_after))]
 fn create_events(alloc: Global, host: &mut MemHost, objects: &[Object]) -> Result<(), OutOfMemory>
     requires { NeverFails host.old }
-    ensures objects { OnOk result (host.new.table.objects ≡ host.old.table.objects ++ map (λ o. Some (new_event (flags_of o))) objects.now) }
+    ensures objects { OnOk result (host.new.table.objects ≡ host.old.table.objects ++ map
+        (λ o. Some (new_event (flags_of o))) objects.now) }
     ensures lists { OnOk result (host.new.table.lists ≡ host.old.table.lists) }
     ensures sound { NeverFails host.new }
 {
@@ -67,7 +68,8 @@ fn create_events(alloc: Global, host: &mut MemHost, objects: &[Object]) -> Resul
 #[tactic(auto, unfolding(vub_event::specs::HostCalls::create_event_after))]
 fn create_bells(alloc: Global, host: &mut MemHost, masks: &[u64]) -> Result<(), OutOfMemory>
     requires { NeverFails host.old }
-    ensures objects { OnOk result (host.new.table.objects ≡ host.old.table.objects ++ map (λ mask. Some (new_event 0)) masks.now) }
+    ensures objects { OnOk result (host.new.table.objects ≡ host.old.table.objects ++ map
+        (λ mask. Some (new_event 0)) masks.now) }
     ensures lists { OnOk result (host.new.table.lists ≡ host.old.table.lists) }
     ensures sound { NeverFails host.new }
 {
@@ -88,7 +90,8 @@ pub(crate) fn add_member(
 ) -> Result<(), OutOfMemory>
     requires sound { NeverFails host.old }
     requires taken { add_refusal host.old.table list (listed object token) ≡ None }
-    ensures table { OnOk result (host.new.table ≡ with_members host.old.table list (with_member (members_at host.old.table list) (listed object token))) }
+    ensures table { OnOk result (host.new.table ≡ with_members host.old.table list (with_member
+        (members_at host.old.table list) (listed object token))) }
     ensures sound { NeverFails host.new }
 {
     match host.add(alloc, list, object, EventSet::IN, token) {
@@ -144,7 +147,8 @@ fn open_list(
     requires exit { IfSome opened.exit (λ x. has_event host.old.table x ≡ true) }
     requires bell { has_event host.old.table opened.bell ≡ true }
     requires apart { opened.exit ≡ Some opened.bell → ⊥ }
-    ensures table { OnOk result (host.new.table ≡ record host.old.table { lists = host.old.table.lists ++ opening_members token opened ∷ [] }) }
+    ensures table { OnOk result (host.new.table
+        ≡ record host.old.table { lists = host.old.table.lists ++ opening_members token opened ∷ [] }) }
     ensures sound { NeverFails host.new }
 {
     let list = create_list(alloc, host)?;
@@ -170,6 +174,8 @@ pub fn opened_worker(count: u32, exits: &[Option<u32>], worker: u32) -> Opened
     }
 }
 
+// Not `vub_vring::open_worker` for each: that works over parts, which lend a service and a device and have their rings
+// already, and it asks for the constants anew for each worker.
 /// The interest lists of the workers.
 fn open_lists(
     alloc: Global,
@@ -180,9 +186,11 @@ fn open_lists(
     requires numbers { count + length constants.now.masks < 2 ^ 32 }
     requires sound { NeverFails host.old }
     requires none { host.old.table.lists ≡ [] }
-    requires there { (object : ℕ) → object < count + length constants.now.masks → has_event host.old.table object ≡ true }
+    requires there { (object : ℕ) → object < count + length constants.now.masks
+        → has_event host.old.table object ≡ true }
     requires exits { ExitsAreThere constants.now count }
-    ensures lists { OnOk result (host.new.table.lists ≡ map (λ w. opening_members constants.now.queues w) (wiring_of constants.now count).opened) }
+    ensures lists { OnOk result (host.new.table.lists ≡ map (λ w. opening_members constants.now.queues w)
+        (wiring_of constants.now count).opened) }
     ensures objects { OnOk result (host.new.table.objects ≡ host.old.table.objects) }
     ensures sound { NeverFails host.new }
 {

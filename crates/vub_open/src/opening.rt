@@ -24,7 +24,8 @@ fn new_store(
 ) -> Result<Store<()>, OutOfMemory>
     requires numbers { length setup.now.objects + length constants.now.masks < 2 ^ 32 }
     requires valid { fault_of constants.now setup.now ≡ None }
-    requires guest { memory.guest ≡ record { regions = map given_region setup.now.regions; contents = contents_from 0 setup.now.objects } }
+    requires guest { memory.guest
+        ≡ record { regions = map given_region setup.now.regions; contents = contents_from 0 setup.now.objects } }
     ensures shared { IfOk result (λ s. unserved s ≡ before_rings constants.now setup.now (tt {0})) }
     ensures sets { IfOk result (λ s. length s.pending.items ≡ length constants.now.masks) }
     ensures sound { IfOk result (λ s. NeverFails s.host) }
@@ -54,7 +55,8 @@ pub fn open_store(
 ) -> Result<Store<()>, OutOfMemory>
     requires numbers { length setup.now.objects + length constants.now.masks < 2 ^ 32 }
     requires valid { fault_of constants.now setup.now ≡ None }
-    requires guest { memory.guest ≡ record { regions = map given_region setup.now.regions; contents = contents_from 0 setup.now.objects } }
+    requires guest { memory.guest
+        ≡ record { regions = map given_region setup.now.regions; contents = contents_from 0 setup.now.objects } }
     ensures shared { IfOk result (λ s. unserved s ≡ (opening constants.now setup.now (tt {0})).shared) }
     ensures sound { IfOk result (λ s. NeverFails s.host) }
 {

@@ -20,7 +20,8 @@ use vub_vring::{Pending, Store};
 fn claim(host: &mut MemHost, kick: u32, queue: u32)
     requires sound { NeverFails host.old }
     requires taken { claim_refusal host.old.table kick queue ≡ None }
-    ensures table { host.new.table ≡ with_event host.old.table kick (claimed_event queue (event_at host.old.table kick)) }
+    ensures table { host.new.table ≡ with_event host.old.table kick (claimed_event queue
+        (event_at host.old.table kick)) }
     ensures sound { NeverFails host.new }
 {
     match host.claim(kick, queue) {
@@ -46,7 +47,8 @@ fn ring_bell(host: &mut MemHost, bell: u32)
 /// Puts a number into the pending set of a worker.
 fn insert(pending: &mut Vec<Pending>, worker: u32, number: u32) -> Result<(), OutOfMemory>
     requires { worker < length pending.old.items }
-    ensures { OnOk result (pending.new.items ≡ slice_set pending.old.items worker (with_number (slice_index_or pending.old.items worker []) number)) }
+    ensures { OnOk result (pending.new.items ≡ slice_set pending.old.items worker (with_number
+        (slice_index_or pending.old.items worker []) number)) }
 {
     pending[worker as usize].insert(number)
 }
@@ -66,7 +68,8 @@ fn place_kick(
     requires sound { NeverFails store.old.host }
     requires add { add_refusal store.old.host.table place.worker (listed kick place.number) ≡ None }
     requires bell { signal_refusal store.old.host.table (count + place.worker) 1 ≡ None }
-    ensures shared { OnOk result (unserved store.new ≡ placed (wiring_of constants.now count) (unserved store.old) kick (Some place)) }
+    ensures shared { OnOk result (unserved store.new ≡ placed (wiring_of constants.now count)
+        (unserved store.old) kick (Some place)) }
     ensures sets { OnOk result (length store.new.pending.items ≡ length constants.now.masks) }
     ensures sound { NeverFails store.new.host }
 {
@@ -95,7 +98,8 @@ fn register(
     requires sets { length store.old.pending.items ≡ length constants.now.masks }
     requires sound { NeverFails store.old.host }
     requires taken { IsTaken constants.now count (unserved store.old) ring.now }
-    ensures shared { OnOk result (unserved store.new ≡ registered (wiring_of constants.now count) (unserved store.old) ring.now) }
+    ensures shared { OnOk result (unserved store.new ≡ registered (wiring_of constants.now count)
+        (unserved store.old) ring.now) }
     ensures sets { OnOk result (length store.new.pending.items ≡ length constants.now.masks) }
     ensures sound { NeverFails store.new.host }
 {
@@ -130,7 +134,8 @@ pub(crate) fn register_rings(
     requires sets { length store.old.pending.items ≡ length constants.now.masks }
     requires sound { NeverFails store.old.host }
     requires taken { AreTaken constants.now count (unserved store.old) given.now }
-    ensures shared { OnOk result (unserved store.new ≡ fold (λ h r. registered (wiring_of constants.now count) h r) (unserved store.old) given.now) }
+    ensures shared { OnOk result (unserved store.new ≡ fold (λ h r. registered (wiring_of constants.now count) h r)
+        (unserved store.old) given.now) }
     ensures sound { NeverFails store.new.host }
 {
     for ring in given {

@@ -27,7 +27,8 @@ fn put_content(
 ) -> Result<(), OutOfMemory>
     requires { AllByRecursion (λ c. c.object < number) memory.old.guest.contents }
     ensures below { OnOk result (AllByRecursion (λ c. c.object < number + 1) memory.new.guest.contents) }
-    ensures ok { OnOk result (memory.new.guest.contents ≡ memory.old.guest.contents ++ contents_from number (object.now ∷ [])) }
+    ensures ok { OnOk result (memory.new.guest.contents ≡ memory.old.guest.contents ++ contents_from number
+        (object.now ∷ [])) }
     ensures regions { memory.new.guest.regions ≡ memory.old.guest.regions }
     ensures logs { memory.new.logs ≡ memory.old.logs }
 {
@@ -90,7 +91,8 @@ fn memory_of(
     requires { length objects.now < 2 ^ 32 }
     ensures refused { IfErr result (λ f. IsRefusal (given_table_fault objects.now regions.now) f) }
     ensures sound { OnOk result (given_table_fault objects.now regions.now ≡ None) }
-    ensures guest { IfOk result (λ m. m.guest ≡ record { regions = map given_region regions.now; contents = contents_from 0 objects.now }) }
+    ensures guest { IfOk result (λ m. m.guest
+        ≡ record { regions = map given_region regions.now; contents = contents_from 0 objects.now }) }
     ensures logs { IfOk result (λ m. m.logs ≡ []) }
 {
     let Ok(mut memory) = contents_of(alloc, objects) else {
@@ -110,7 +112,8 @@ fn memory_of(
 
 /// The first test that fails of those that are made before the region table.
 fn fault_before(constants: &Constants, setup: &Setup) -> Option<SetupFault>
-    ensures { result ≡ or_else (device_fault constants.now setup.now.objects) (region_fault setup.now.objects setup.now.regions) }
+    ensures { result ≡ or_else (device_fault constants.now setup.now.objects)
+        (region_fault setup.now.objects setup.now.regions) }
 {
     let objects = setup.objects.as_slice();
     match device_fault(constants, objects) {
@@ -121,7 +124,8 @@ fn fault_before(constants: &Constants, setup: &Setup) -> Option<SetupFault>
 
 /// The first test that fails of those that are made behind the region table.
 fn fault_behind(constants: &Constants, setup: &Setup) -> Option<SetupFault>
-    ensures { result ≡ or_else (ring_fault constants.now setup.now.objects [] setup.now.rings) (guest_fault setup.now.objects setup.now.guest) }
+    ensures { result ≡ or_else (ring_fault constants.now setup.now.objects [] setup.now.rings)
+        (guest_fault setup.now.objects setup.now.guest) }
 {
     let objects = setup.objects.as_slice();
     match ring_fault(constants, objects, setup.rings.as_slice()) {
@@ -150,7 +154,8 @@ pub fn validate(
 ) -> Result<GuestMemory<()>, DriveFault>
     ensures refused { IfErr result (λ f. IsRefusal (fault_of constants.now setup.now) f) }
     ensures valid { OnOk result (fault_of constants.now setup.now ≡ None) }
-    ensures guest { IfOk result (λ m. m.guest ≡ record { regions = map given_region setup.now.regions; contents = contents_from 0 setup.now.objects }) }
+    ensures guest { IfOk result (λ m. m.guest
+        ≡ record { regions = map given_region setup.now.regions; contents = contents_from 0 setup.now.objects }) }
     ensures logs { IfOk result (λ m. m.logs ≡ []) }
     ensures numbers { OnOk result (length setup.now.objects + length constants.now.masks < 2 ^ 32) }
 {

@@ -1,5 +1,6 @@
 -- The device of a script: what it says at a call, and what the call leaves of it.
-use Rattle.std.specs.Prelude.{ℕ, ◌+◌, ◌++◌, Bool, if◌then◌else◌, nat_le, List, length, take, drop, Option, slice_get, pos}
+use Rattle.std.specs.Prelude.{ℕ, ◌+◌, ◌++◌, Bool, if◌then◌else◌, nat_le, List, length, take, drop, Option}
+use Rattle.std.specs.Prelude.{slice_get, pos}
 use Rattle.std.specs.Option.{option_flatten}
 use Rattle.vub_base.specs.Causes.{one_more, is_listed}
 use Rattle.vub_proto.specs.declared.device_op.DeviceOp.{DeviceOp}
@@ -57,7 +58,11 @@ numbered d said = with_refusal (record d { calls = one_more d.calls }) said
 -- the config space with these bytes at this offset, where the call that brings them is done
 abbrev pub with_config : ScriptState → ℕ → List ℕ → DeviceSaid → ScriptState
 with_config d offset bytes outcome.Done =
-    record d { form = record d.form { config = take offset d.form.config ++ (bytes ++ drop (offset + length bytes) d.form.config) } }
+    record d {
+      form = record d.form {
+        config = take offset d.form.config ++ (bytes ++ drop (offset + length bytes) d.form.config);
+      };
+    }
 with_config d offset bytes said = d
 
 abbrev pub script_moved : ScriptState → DeviceOp → ScriptState
@@ -67,5 +72,6 @@ script_moved d (device.SetEventIdx enabled) = d
 script_moved d (device.GetConfig offset size) = d
 script_moved d (device.SetBackendReqFd backend) = d
 script_moved d (device.SetConfig offset bytes) =
-    with_config (numbered d (script_said d (device.SetConfig offset bytes))) offset bytes (script_said d (device.SetConfig offset bytes))
+    let said = script_said d (device.SetConfig offset bytes) in
+    with_config (numbered d said) offset bytes said
 script_moved d op = numbered d (script_said d op)

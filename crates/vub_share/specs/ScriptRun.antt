@@ -32,7 +32,9 @@ shown d = record { value = Some d; refusals = d.refusals }
 
 -- what the device of a script never changes
 abbrev pub constants_in : DeviceForm → Constants
-constants_in form = constants_of form.queues form.max_size form.features form.protocol form.masks (λ worker. exit_at form.exits worker)
+constants_in form =
+    constants_of form.queues form.max_size form.features form.protocol form.masks
+    (λ worker. exit_at form.exits worker)
 
 -- the first test that the set-up of a script fails
 abbrev pub fault_in : Script → Option SetupFault

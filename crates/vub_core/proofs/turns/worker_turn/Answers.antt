@@ -1,18 +1,15 @@
-use Rattle.std.proofs.Common.{rules, ◌≡◌, ◌∙◌, ◌++◌, ◌<◌, ◌⊎◌, List, length, IsSome, Option, ap, subst, refl}
-use Rattle.vub_model.specs.declared.play.Play.TheVariants as play
+use Rattle.std.proofs.Common.{rules, ◌≡◌, ◌∙◌, ◌++◌, ◌<◌, inl, Bool, List, length, ap, subst, refl}
 use Rattle.vub_model.specs.declared.phase.Phase.{Phase}
 use Rattle.vub_model.specs.DeviceCalls.{heard_in}
 use Rattle.vub_model.specs.RingRecord.{Vring}
 use Rattle.vub_model.specs.World.{takes_by}
-use Rattle.vub_loop.specs.declared.finished.Finished.{Finished}
-use Rattle.vub_loop.specs.Finished.{finished_by}
 use Rattle.vub_loop.specs.Handler.{phase_of}
 use Rattle.vub_vring.specs.Store.{shared_of}
 use Rattle.vub_core.specs.DeviceRun.{state_by, telling_by, HasMade}
 use Rattle.vub_core.specs.Machine.{world_of}
 use Rattle.vub_core.specs.Meanings.{meaning_by}
 use Rattle.vub_core.specs.Places.{IsFootprint}
-use Rattle.vub_core.specs.Recorded.{IsWritten}
+use Rattle.vub_core.specs.Recorded.{uses_in, IsWritten}
 use Rattle.vub_core.proofs.Kept.{handler-here, handlers-again, same-taken, turn-keeps, on-err}
 use Rattle.vub_core.proofs.Made.{recorded-none}
 use Rattle.vub_core.proofs.Stepping.{machine-turned, phase-here}
@@ -30,17 +27,13 @@ returns-in_err-record-clause-service g c w control are none =
     let within : c.args.worker < length c.args.machine.now.workers.items = search rules in
     let own = handler-here w c.args.machine.now.workers.items c.args.worker c.index_mut-handler.result.now are within c.index_mut-handler.ensures.value in
     let row = c.in_ok-play.ensures.row w c.args.worker own in
-    let done : c.take_finished-finished.result ≡ finished_by c.in_ok-play.play (phase_of c.index_mut-handler.result.now) (phase_of c.play_worker.new.worker) = c.take_finished-finished.ensures.was ∙ c.in_ok-play.ensures.finished in
-    let C : Option Finished → Type 0 = λ x. (c.in_ok-play.play ≡ play.Take) ⊎ IsSome x in
-    on-err c.from_residual-in_err-record.result (turn-keeps (meaning_by g.V.Service) w c.args.worker _ _ _ _ c.in_ok-play.play row (subst C done c.in_err-record.ensures.err))
+    on-err c.from_residual-in_err-record.result (turn-keeps (meaning_by g.V.Service) w c.args.worker _ _ _ _ c.in_ok-play.play row (inl c.in_err-record.ensures.err))
 
 pub returns-in_err-record-clause-device : goal.returns-in_err-record-clause-device
 returns-in_err-record-clause-device g c w control are none =
     let within : c.args.worker < length c.args.machine.now.workers.items = search rules in
     let own = handler-here w c.args.machine.now.workers.items c.args.worker c.index_mut-handler.result.now are within c.index_mut-handler.ensures.value in
-    let done : c.take_finished-finished.result ≡ finished_by c.in_ok-play.play (phase_of c.index_mut-handler.result.now) (phase_of c.play_worker.new.worker) = c.take_finished-finished.ensures.was ∙ c.in_ok-play.ensures.finished in
-    let C : Option Finished → Type 0 = λ x. (c.in_ok-play.play ≡ play.Take) ⊎ IsSome x in
-    on-err c.from_residual-in_err-record.result (recorded-none (telling_by g.D.VhostUserBackendMut) c.args.worker (phase_of c.index_mut-handler.result.now) (phase_of c.play_worker.new.worker) c.in_ok-play.play (state_by g.D.VhostUserBackendMut c.args.device.now) (state_by g.D.VhostUserBackendMut c.play_worker.new.device) (subst C done c.in_err-record.ensures.err) (c.in_ok-play.ensures.made w c.args.worker own))
+    on-err c.from_residual-in_err-record.result (recorded-none (telling_by g.D.VhostUserBackendMut) c.args.worker (phase_of c.index_mut-handler.result.now) (phase_of c.play_worker.new.worker) c.in_ok-play.play (state_by g.D.VhostUserBackendMut c.args.device.now) (state_by g.D.VhostUserBackendMut c.play_worker.new.device) (inl c.in_err-record.ensures.err) (c.in_ok-play.ensures.made w c.args.worker own))
 
 pub returns-clause-turn : goal.returns-clause-turn
 returns-clause-turn g c guest w control are none =
@@ -50,8 +43,9 @@ returns-clause-turn g c guest w control are none =
     let ended : c.phase-2.result.now ≡ now = c.phase-2.ensures ∙ ap (λ h. phase_of h) c.take_finished-finished.ensures.left in
     let F : List Vring → Phase → Type 0 = λ rs p. IsFootprint rs p c.next_footprint-footprint.result in
     let foot = subst (λ rs. F rs (phase_of c.index_mut-handler.result.now)) c.as_slice.ensures.value (subst (λ p. F c.as_slice.result.now p) c.phase.ensures c.next_footprint-footprint.ensures) in
-    let took = c.in_ok-record.ensures.takes ∙ ap (λ p. c.args.machine.now.records.takes.items ++ takes_by c.in_ok-play.play p) ended in
-    let W : Phase → Type 0 = λ p. IsWritten c.play_worker.new.store.memory.guest.regions c.next_footprint-footprint.result c.in_ok-play.play p c.take_finished-finished.result c.args.machine.now.records.written c.record.new.self.written in
+    let took = c.in_ok-record.ensures.takes ∙ ap (λ ts. ts ++ takes_by c.in_ok-play.play c.phase-2.result.now) c.reserve.ensures.takes ∙ ap (λ p. c.args.machine.now.records.takes.items ++ takes_by c.in_ok-play.play p) ended in
+    let used = c.in_ok-record.ensures.uses ∙ ap (λ us. us ++ uses_in c.take_finished-finished.result) c.reserve.ensures.uses in
+    let W : Phase → List (List Bool) → Type 0 = λ p flags. IsWritten c.play_worker.new.store.memory.guest.regions c.next_footprint-footprint.result c.in_ok-play.play p c.take_finished-finished.result flags c.record.new.self.written in
     machine-turned (meaning_by g.V.Service) (world_of w control guest c.args.machine.now c.args.service.now) c.args.worker c.args.machine.now.workers.items c.index_mut-handler.result.now c.take_finished-finished.new.self
     (shared_of c.play_worker.new.store c.play_worker.new.service) now c.next_footprint-footprint.result c.take_finished-finished.result _ _ _ c.in_ok-play.play
     refl within c.index_mut-handler.ensures.value
@@ -59,8 +53,8 @@ returns-clause-turn g c guest w control are none =
     foot
     (c.take_finished-finished.ensures.was ∙ c.in_ok-play.ensures.finished)
     took
-    c.in_ok-record.ensures.uses
-    (subst W ended c.in_ok-record.ensures.written)
+    used
+    (subst (λ flags. W now flags) c.reserve.ensures.written (subst (λ p. W p c.reserve.new.self.written) ended c.in_ok-record.ensures.written))
     (ap (λ h. phase_of h) c.take_finished-finished.ensures.left)
 
 pub returns-clause-least : goal.returns-clause-least
