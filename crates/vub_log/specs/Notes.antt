@@ -1,7 +1,8 @@
 -- A shared log by what its parties note of it: their marks, their loads and, of one party, the harvests.
 -- A word of the log is a number of 64 bits. Its low 32 bits are those of its pages, page p as bit p % 32, and its high
 -- 32 bits are its generation.
-use Rattle.std.specs.Prelude.{◌≡◌, ◌⊎◌, ℕ, ◌*◌, ◌/◌, ◌%◌, ◌^◌, ◌<◌, ◌==◌, if◌then◌else◌, Bool, true, false, List, [], ◌∷◌, ◌++◌, length, slice_index}
+use Rattle.std.specs.Prelude.{◌≡◌, ◌⊎◌, ℕ, ◌*◌, ◌/◌, ◌%◌, ◌^◌, ◌<◌, ◌==◌, if◌then◌else◌, Bool, true, false, List, []}
+use Rattle.std.specs.Prelude.{◌∷◌, ◌++◌, length, slice_index}
 use Rattle.std.specs.Int.{bit_at}
 use Rattle.atomic_table.specs.Seated.{TableId}
 use Rattle.vub_log.specs.declared.notes.MarkNote.{MarkNote}
@@ -61,7 +62,8 @@ with_notes v w = record v { marks = v.marks ++ w.marks; loads = v.loads ++ w.loa
 
 -- a party that has noted nothing, and that keeps the harvests or does not
 abbrev pub new_party : TableId → ℕ → Bool → Party
-new_party log len keeps = record { log = log; len = len; notes = record { keeps = keeps; harvests = []; marks = []; loads = [] } }
+new_party log len keeps =
+    record { log = log; len = len; notes = record { keeps = keeps; harvests = []; marks = []; loads = [] } }
 
 -- the fact holds of each element
 abbrev pub Each : {A : Type 0} → (A → Type 0) → List A → Type 0
@@ -72,32 +74,39 @@ Each P (x ∷ xs) = P x × Each P xs
 -- is of the word's generation and the bit stands, or of an earlier one and the bit is in the harvest of that number
 abbrev pub HoldsIn : ℕ → List ℕ → ℕ → ℕ → Type 0
 HoldsIn n harvests bit generation =
-    ((generation ≡ generation_of n) × (bit_at n bit ≡ 1)) ⊎ ((generation < generation_of n) × (bit_at (slice_index harvests generation) bit ≡ 1))
+    ((generation ≡ generation_of n) × (bit_at n bit ≡ 1))
+    ⊎ ((generation < generation_of n) × (bit_at (slice_index harvests generation) bit ≡ 1))
 
 -- where the mark is in this word, the word's bits show it and it is of this generation, or it is of an earlier one
 abbrev pub IsShownBy : ℕ → ℕ → ℕ → MarkNote → Type 0
-IsShownBy word bits generation m = m.page / 32 ≡ word → ((m.generation ≡ generation) × (bit_at bits (m.page % 32) ≡ 1)) ⊎ (m.generation < generation)
+IsShownBy word bits generation m =
+    m.page / 32 ≡ word → ((m.generation ≡ generation) × (bit_at bits (m.page % 32) ≡ 1)) ⊎ (m.generation < generation)
 
 -- where the mark is in this word, whose harvests took these bits, it is in the harvest of its number
 abbrev pub IsHarvested : ℕ → List ℕ → MarkNote → Type 0
-IsHarvested word harvests m = m.page / 32 ≡ word → (m.generation < length harvests) × (bit_at (slice_index harvests m.generation) (m.page % 32) ≡ 1)
+IsHarvested word harvests m =
+    m.page / 32 ≡ word →
+    (m.generation < length harvests) × (bit_at (slice_index harvests m.generation) (m.page % 32) ≡ 1)
 
 -- a mark: the party notes the page with its word's generation
 abbrev pub NotesMark : Party → ℕ → Party → Type 0
-NotesMark old page new = (generation : ℕ) × (new ≡ record old { notes = with_mark old.notes (mark_note page generation) })
+NotesMark old page new =
+    (generation : ℕ) × (new ≡ record old { notes = with_mark old.notes (mark_note page generation) })
 
 -- A load of a byte: the party notes its word's bits and generation, and the byte is that of these bits. Each mark that
 -- the party had noted in this word is shown by these bits, or is of an earlier generation, so it was harvested
 abbrev pub NotesLoad : Party → ℕ → ℕ → Party → Type 0
 NotesLoad old byte read new =
-    (bits : ℕ) × (generation : ℕ) × (new ≡ record old { notes = with_load old.notes (load_note (byte / 4) bits generation) })
+    (bits : ℕ) × (generation : ℕ) ×
+    (new ≡ record old { notes = with_load old.notes (load_note (byte / 4) bits generation) })
     × (read ≡ bits / 2 ^ (8 * (byte % 4)) % 256) × Each (IsShownBy (byte / 4) bits generation) old.notes.marks
 
 -- A harvest of a word: the party notes the bits that it took. Each mark that the party had noted in this word is now in
 -- the harvest of its number
 abbrev pub NotesHarvest : Party → ℕ → ℕ → Party → Type 0
 NotesHarvest old word bits new =
-    (new ≡ record old { notes = with_harvest old.notes (harvest_note word bits) }) × Each (IsHarvested word (harvests_of word new.notes.harvests)) old.notes.marks
+    (new ≡ record old { notes = with_harvest old.notes (harvest_note word bits) }) ×
+    Each (IsHarvested word (harvests_of word new.notes.harvests)) old.notes.marks
 
 -- the word was harvested so often that its generation can't rise
 abbrev pub IsSpentAt : Party → ℕ → Type 0

@@ -1,5 +1,6 @@
 -- The plain log: its words of 32 pages, and how often each was harvested.
-use Rattle.std.specs.Prelude.{◌≡◌, ℕ, ◌+◌, ◌*◌, ◌/◌, ◌%◌, ◌^◌, ◌<◌, List, length, replicate, slice_index, slice_set, bit_or}
+use Rattle.std.specs.Prelude.{◌≡◌, ℕ, ◌+◌, ◌*◌, ◌/◌, ◌%◌, ◌^◌, ◌<◌, List, length, replicate, slice_index, slice_set}
+use Rattle.std.specs.Prelude.{bit_or}
 use Rattle.std.specs.Int.{bit_at}
 use Rattle.vub_mem.specs.LogBits.{LogBits}
 
@@ -30,7 +31,8 @@ page_bit log page = bit_at (word_of log (page / 32)) (page % 32)
 
 -- the log after a mark of a page
 abbrev pub marked : Plain → ℕ → Plain
-marked log page = record log { words = slice_set log.words (page / 32) (bit_or (word_of log (page / 32)) (2 ^ (page % 32))) }
+marked log page =
+    record log { words = slice_set log.words (page / 32) (bit_or (word_of log (page / 32)) (2 ^ (page % 32))) }
 
 -- a byte of the log: words are little-endian
 abbrev pub byte_of : Plain → ℕ → ℕ
@@ -38,7 +40,8 @@ byte_of log byte = word_of log (byte / 4) / 2 ^ (8 * (byte % 4)) % 256
 
 -- the log after a harvest of a word
 abbrev pub harvested : Plain → ℕ → Plain
-harvested log word = record log { words = slice_set log.words word 0; counts = slice_set log.counts word (harvest_count log word + 1) }
+harvested log word =
+    record log { words = slice_set log.words word 0; counts = slice_set log.counts word (harvest_count log word + 1) }
 
 -- what the log tells: the bit of each page, and how often each word was harvested
 abbrev pub told_bits : Plain → LogBits

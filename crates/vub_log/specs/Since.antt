@@ -30,7 +30,9 @@ bit_since bit (op ∷ ops) page = bit_since (bit_after bit op page) ops page
 
 -- after any calls a page's bit stands exactly where it stood or was marked since the last harvest of its word
 abbrev pub StandsSinceHarvest : Type 0
-StandsSinceHarvest = (log : Plain) (ops : List LogOp) (page : ℕ) → page < 32 * length log.words → page_bit (after log ops) page ≡ bit_since (page_bit log page) ops page
+StandsSinceHarvest =
+    (log : Plain) (ops : List LogOp) (page : ℕ) → page < 32 * length log.words →
+    page_bit (after log ops) page ≡ bit_since (page_bit log page) ops page
 
 -- a byte has the bits of its eight pages
 abbrev pub HasBits : Type 0

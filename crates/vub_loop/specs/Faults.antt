@@ -5,7 +5,9 @@ use Rattle.std.specs.Prelude.{◌≡◌, ◌⊎◌, ℕ, Bool, true, ◌==◌, i
 use Rattle.vub_model.specs.declared.cause.StopCause.TheVariants.{Fault}
 use Rattle.vub_model.specs.declared.cause.Why.TheVariants as why
 use Rattle.vub_model.specs.declared.cause.VringEpollError.{VringEpollError}
-use Rattle.vub_model.specs.declared.cause.VringEpollError.TheVariants.{EpollWait, HandleEventReadKick, HandleVringEnabledEventConsume, HandleEventBackendHandling}
+use Rattle.vub_model.specs.declared.cause.VringEpollError.TheVariants.{EpollWait, HandleEventReadKick}
+use Rattle.vub_model.specs.declared.cause.VringEpollError.TheVariants.{HandleVringEnabledEventConsume}
+use Rattle.vub_model.specs.declared.cause.VringEpollError.TheVariants.{HandleEventBackendHandling}
 use Rattle.vub_model.specs.declared.phase.Phase.{Phase}
 use Rattle.vub_model.specs.declared.phase.Phase.TheVariants.{Idle, Polled, Served, Stopped}
 use Rattle.vub_model.specs.declared.play.Play.{Play}

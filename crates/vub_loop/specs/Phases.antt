@@ -3,7 +3,8 @@ use Rattle.std.specs.Prelude.{◌≡◌, ℕ, Bool, true, false, ◌⊎◌}
 use Rattle.vub_model.specs.declared.cause.StopCause.TheVariants.{Fault}
 use Rattle.vub_model.specs.declared.cause.VringEpollError.TheVariants.{EpollWait}
 use Rattle.vub_model.specs.declared.phase.Phase.{Phase}
-use Rattle.vub_model.specs.declared.phase.Phase.TheVariants.{Idle, Polled, Sweep, Heard, Serving, Taken, Served, Stopped}
+use Rattle.vub_model.specs.declared.phase.Phase.TheVariants.{Idle, Polled, Sweep, Heard, Serving, Taken, Served}
+use Rattle.vub_model.specs.declared.phase.Phase.TheVariants.{Stopped}
 use Rattle.vub_model.specs.declared.play.Play.{Play}
 use Rattle.vub_model.specs.declared.play.Play.TheVariants as play
 use Rattle.vub_loop.specs.declared.turned.Turned.{Turned}

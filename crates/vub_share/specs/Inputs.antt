@@ -19,19 +19,24 @@ IsNoScript input = (length input ≤ LIMIT) × (read_draft input ≡ None)
 -- a script past the limits, or whose set-up fails a test
 abbrev pub IsSetUpRefused : List ℕ → Type 0
 IsSetUpRefused input =
-    (length input ≤ LIMIT) × ((d : Draft) × (read_draft input ≡ Some d) × ((is_within d ≡ false) ⊎ ((is_within d ≡ true) × IsSome (fault_in (script_from d)))))
+    (length input ≤ LIMIT) ×
+    ((d : Draft) × (read_draft input ≡ Some d)
+    × ((is_within d ≡ false) ⊎ ((is_within d ≡ true) × IsSome (fault_in (script_from d)))))
 
 -- a script within the limits whose set-up passes all tests
 abbrev pub IsRunnable : List ℕ → Type 0
 IsRunnable input =
-    (length input ≤ LIMIT) × ((d : Draft) × (read_draft input ≡ Some d) × (is_within d ≡ true) × (fault_in (script_from d) ≡ None))
+    (length input ≤ LIMIT) ×
+    ((d : Draft) × (read_draft input ≡ Some d) × (is_within d ≡ true) × (fault_in (script_from d) ≡ None))
 
 -- the headline's run of the script that the input is
 abbrev pub HasRun : List ℕ → Run → Type 0
 HasRun input run =
-    (length input ≤ LIMIT) × ((d : Draft) × (read_draft input ≡ Some d) × (is_within d ≡ true) × IsRunOf (script_from d) run)
+    (length input ≤ LIMIT) ×
+    ((d : Draft) × (read_draft input ≡ Some d) × (is_within d ≡ true) × IsRunOf (script_from d) run)
 
--- what an input calls for, but for read faults and want of memory: only a script within the limits has a run, the headline's
+-- what an input calls for, but for read faults and want of memory: only a script within the limits has a run, the
+-- headline's
 abbrev pub CallsFor : List ℕ → Result Run NoRun → Type 0
 CallsFor input (Ok run) = HasRun input run
 CallsFor input (Err NotAScript) = IsNoScript input

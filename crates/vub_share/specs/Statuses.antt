@@ -1,7 +1,8 @@
 -- The exit statuses of the program, and what it says of each on standard error.
 use Rattle.std.specs.Prelude.{ℕ, List, Option, Some, None, codes}
 use Rattle.vub_share.specs.declared.status.Status.{Status}
-use Rattle.vub_share.specs.declared.status.Status.TheVariants.{Done, Words, NotAScript, SetUp, Read, Write, Memory, TooLong}
+use Rattle.vub_share.specs.declared.status.Status.TheVariants.{Done, Words, NotAScript, SetUp, Read, Write, Memory}
+use Rattle.vub_share.specs.declared.status.Status.TheVariants.{TooLong}
 use Rattle.vub_share.specs.declared.no_run.NoRun.{NoRun}
 use Rattle.vub_share.specs.declared.no_run.NoRun.TheVariants as why
 

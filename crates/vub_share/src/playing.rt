@@ -55,7 +55,9 @@ fn run_of_script(alloc: Global, script: Script) -> Result<Run, NoRun>
 /// `SetUp` past a limit, or where the set-up can't be run; want of memory.
 fn run_of_draft(alloc: Global, draft: Draft) -> Result<Run, NoRun>
     ensures ok { IfOk result (λ run. (is_within draft ≡ true) × IsRunOf (script_from draft) run) }
-    ensures err { IfErr result (λ why. ((why ≡ NoRun.SetUp) × ((is_within draft ≡ false) ⊎ ((is_within draft ≡ true) × IsSome (fault_in (script_from draft))))) ⊎ (why ≡ NoRun.Memory)) }
+    ensures err { IfErr result (λ why. ((why ≡ NoRun.SetUp)
+        × ((is_within draft ≡ false) ⊎ ((is_within draft ≡ true) × IsSome (fault_in (script_from draft)))))
+        ⊎ (why ≡ NoRun.Memory)) }
 {
     if !is_within_limits(&draft) {
         return Err(NoRun::SetUp);

@@ -18,7 +18,8 @@ use vub_text::print_run;
 
 /// Writes the text of a run. The text is whole in memory before its first byte is written.
 fn write_run<K: Sink>(alloc: Global, run: Run, sink: &mut K) -> Finished
-    ensures done { result.status ≡ 0 → (result.run ≡ Some run) × Appends (K.taken sink.old) (K.taken sink.new) (run_text run) }
+    ensures done { result.status ≡ 0 → (result.run ≡ Some run)
+        × Appends (K.taken sink.old) (K.taken sink.new) (run_text run) }
     ensures failed { result.status ≡ 5 → (result.run ≡ Some run)
         × WritesFront (K.taken sink.old) (K.taken sink.new) (run_text run)
         × Rose (K.fault_count sink.old) (K.fault_count sink.new) }
@@ -60,7 +61,8 @@ pub fn run_script<S: Source, K: Sink>(
     ensures only_long { OnInput S.Source source.old words.now IsTooLong (IsStatus 7 result.status) }
     ensures only_script { OnInput S.Source source.old words.now IsNoScript (IsStatus 2 result.status) }
     ensures only_set_up { OnInput S.Source source.old words.now IsSetUpRefused (IsStatus 3 result.status) }
-    ensures complete { OnInput S.Source source.old words.now IsRunnable ((result.status ≡ 5) ⊎ IsStatus 0 result.status) }
+    ensures complete { OnInput S.Source source.old words.now IsRunnable ((result.status ≡ 5)
+        ⊎ IsStatus 0 result.status) }
 
     // a run is there exactly at 0 and 5: the one of the script that was read; its text was written, or a front of it, and
     // nothing else
