@@ -268,8 +268,8 @@ impl VringEpollHandler {
         }
     }
 
-    /// Hear: the device handles the event of the listener that was heard; where it refuses that, the worker stops. Takes no
-    /// memory, and has no error.
+    /// Hear: the device handles the event of the listener that was heard; where it refuses that, the worker stops.
+    /// Takes no memory, and has no error.
     pub fn hear_step<P: Parts>(
         &mut self,
         alloc: Global,

@@ -283,19 +283,44 @@ fn turns_over_parts_that_tell_nothing(rt: HostRuntime) -> Result<(), Fail> {
     Ok(())
 }
 
+/// Makes the step that is so named.
+fn make<P: Parts>(
+    alloc: Global,
+    worker: &mut VringEpollHandler,
+    parts: &mut P,
+    step: Came,
+) -> Result<bool, VringEpollError> {
+    match step {
+        Came::Poll(_) => worker.poll_step(alloc, parts),
+        Came::Event => worker.event_step(alloc, parts),
+        Came::Sweep => worker.sweep_step(alloc, parts),
+        Came::Hear => worker.hear_step(alloc, parts),
+        Came::Take => worker.take_step(alloc, parts),
+        Came::Serve => worker.serve_step(alloc, parts),
+        Came::Put => worker.put_step(alloc, parts),
+        Came::Pass => Ok(false),
+        Came::Failed => Ok(false),
+    }
+}
+
 #[test]
 fn each_step_by_itself(rt: HostRuntime) -> Result<(), Fail> {
     let alloc = rt.alloc();
     let mut parts = with_report(alloc, report(7, 0), 1)?;
     let constants = one_worker(alloc)?;
     let mut worker = VringEpollHandler::from_constants(alloc, &constants, OPENED)?;
-    assert!(rt; worker.poll_step(alloc, &mut parts)?);
-    assert!(rt; worker.event_step(alloc, &mut parts)?);
-    assert!(rt; worker.take_step(alloc, &mut parts)?);
-    assert!(rt; worker.serve_step(alloc, &mut parts)?);
-    assert!(rt; worker.put_step(alloc, &mut parts)?);
-    assert!(rt; !worker.hear_step(alloc, &mut parts)?);
-    assert!(rt; !worker.sweep_step(alloc, &mut parts)?);
+    let steps = [
+        (Came::Poll(7), true),
+        (Came::Sweep, false),
+        (Came::Event, true),
+        (Came::Hear, false),
+        (Came::Take, true),
+        (Came::Serve, true),
+        (Came::Put, true),
+    ];
+    for (step, made) in steps {
+        assert_eq!(rt; make(alloc, &mut worker, &mut parts, step)?, made);
+    }
     Ok(())
 }
 
