@@ -331,7 +331,13 @@ impl VringEpollHandler {
                         self.stand(Phase::Taken(entry, queues));
                         Ok(true)
                     }
-                    Ok(TableRingSaid::Nothing) => {
+                    // the last three answer another call: parts that tell nothing say by them that nothing was taken
+                    Ok(
+                        TableRingSaid::Nothing
+                        | TableRingSaid::Done
+                        | TableRingSaid::Waits
+                        | TableRingSaid::Outside,
+                    ) => {
                         self.stand(serving_rest(queues));
                         Ok(true)
                     }

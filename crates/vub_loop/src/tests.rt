@@ -8,13 +8,13 @@ use vub_base::{Bytes, Listed, OutOfMemory};
 use vub_event::{EventSet, Host, HostError, MemHost, Ready};
 use vub_mem::GuestMemory;
 use vub_model::{
-    Constants, Entry, Opened, Phase, Play, RingOp, RingSaid, StopCause, VringEpollError,
+    Constants, Entry, Opened, Phase, Play, RingOp, RingSaid, StopCause, TableOp, VringEpollError,
 };
 use vub_proto::{DeviceOp, DeviceSaid, FixedDevice, Service};
 use vub_queue::{Chain, Segments};
 use vub_vring::{
     HostOp, HostSaid, KickSaid, OwnedParts, Parts, PartsError, PendOp, PendSaid, Pending, PutSaid,
-    Store, TableRing, TableRingSaid, VringState, play_device,
+    Store, TableRing, TableRingSaid, TableSaid, VringState, play_device,
 };
 
 /// A service whose replies are empty.
@@ -126,9 +126,15 @@ impl Parts for Silent {
         Ok(Bytes::new(alloc))
     }
 
+    fn table(&mut self, alloc: Global, _op: TableOp) -> Result<TableSaid, PartsError> {
+        Ok(TableSaid::Regions(Listed::new(alloc)))
+    }
+
     fn device(&mut self, alloc: Global, op: DeviceOp) -> Result<DeviceSaid, PartsError> {
         play_device(alloc, &mut self.device, op)
     }
+
+    fn wait_ready(&mut self, _list: u32) {}
 
     fn constants(&mut self, alloc: Global) -> Result<Constants, OutOfMemory> {
         one_worker(alloc)

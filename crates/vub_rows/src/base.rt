@@ -13,6 +13,8 @@ pub struct Case {
     /// The elements of the list of regions.
     pub regions: &'static str,
     pub ready: bool,
+    /// The kick of the ring: an object's number, or `null`.
+    pub kick: &'static str,
     /// What the guest stores in the descriptor table: 16 bytes each, namely the address, the length, the flags (1 a
     /// next one, 2 writable, 4 indirect) and the next one's number, little-endian.
     pub descriptors: &'static str,
@@ -30,6 +32,7 @@ pub fn base() -> Case {
         name: "one entry is echoed",
         regions: r#"["0x100000","0x10000","0x100000",0,0]"#,
         ready: true,
+        kick: "1",
         descriptors: "0030100000000000050000000100010000401000000000001000000002000000",
         available: "000001000000",
         turns: r#""schedule":[0,0,0,0],"rounds":12"#,
@@ -48,6 +51,7 @@ pub fn script_of(alloc: Global, case: &Case) -> Result<String, OutOfMemory> {
     let Case {
         regions,
         ready,
+        kick,
         descriptors,
         available,
         turns,
@@ -57,8 +61,8 @@ pub fn script_of(alloc: Global, case: &Case) -> Result<String, OutOfMemory> {
     text.push_str(r#"{"objects":[{"bytes":65536},{"event":0},{"event":0}],"#)?;
     write!(text, "\"regions\":[{regions}],")?;
     text.push_str(r#""rings":[{"queue":0,"size":8,"info":["0x100000","0x101000","0x102000"],"#)?;
-    text.push_str(r#""base":0,"next_used":0,"kick":1,"call":2,"#)?;
-    write!(text, "\"ready\":{ready},\"enabled\":true}}],")?;
+    text.push_str(r#""base":0,"next_used":0,"call":2,"enabled":true,"#)?;
+    write!(text, "\"kick\":{kick},\"ready\":{ready}}}],")?;
     write!(text, "\"guest\":[[\"store\",0,0,\"{descriptors}\"],")?;
     text.push_str(r#"["store",0,12288,"68656c6c6f"],"#)?;
     write!(text, "[\"store\",0,4096,\"{available}\"],[\"signal\",1]],")?;

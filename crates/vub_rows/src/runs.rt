@@ -28,7 +28,7 @@ pub fn expect_texts(rt: &impl Abort, alloc: Global, cases: &[Case]) -> Result<()
     Ok(())
 }
 
-fn plain_cases() -> [Case; 6] {
+fn plain_cases() -> [Case; 7] {
     [
         base(),
         Case {
@@ -45,6 +45,12 @@ fn plain_cases() -> [Case; 6] {
         Case {
             name: "a ring that is not ready leaves the kick counted",
             ready: false,
+            text: "turns 40 played 4 rest yes\ncount 1 1\n",
+            ..base()
+        },
+        Case {
+            name: "a ring without a kick is not registered, and its entry stays",
+            kick: "null",
             text: "turns 40 played 4 rest yes\ncount 1 1\n",
             ..base()
         },
