@@ -19,9 +19,9 @@ each_in P (y ∷ ys) x h (inr i) = each_in P ys x h.1 i
 
 pub hold_where_noted : (count : ℕ) (s : State ℕ Notes) (k : Kept count s) (m : MarkNote) → IsNoted s.views m ↔ MarkHolds s.words k.harvests m
 hold_where_noted count s k m = (
-      (λ x. each_in (MarkHolds s.words k.harvests) x.1.marks m (k.fits x.0 x.1 x.2).marks x.3),
-      (λ h. subst (λ (p : ℕ). IsNoted s.views (mark_note p m.generation)) (page_is m.page) (k.made (m.page / 32) (m.page % 32) m.generation (mod_below m.page 32 (omega arith)) h)),
-    )
+  (λ x. each_in (MarkHolds s.words k.harvests) x.1.marks m (k.fits x.0 x.1 x.2).marks x.3),
+  (λ h. subst (λ (p : ℕ). IsNoted s.views (mark_note p m.generation)) (page_is m.page) (k.made (m.page / 32) (m.page % 32) m.generation (mod_below m.page 32 (omega arith)) h)),
+)
 
 pub loads_hold : (count : ℕ) (s : State ℕ Notes) (k : Kept count s) (j : ℕ) (v : Notes) (l : LoadNote) → get_elem? s.views j ≡ some v → IsIn l v.loads → LoadHolds s.words k.harvests l
 loads_hold count s k j v l at has = each_in (LoadHolds s.words k.harvests) v.loads l (k.fits j v at).loads has
