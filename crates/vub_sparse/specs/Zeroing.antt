@@ -30,3 +30,24 @@ module _ {F : Type 0} (W : F → ℕ → List ℕ → Result ℕ FileError → F
   Refuses offset first length WriteZero now = (done : ℕ) × (done < length) × ZeroesThen offset first done (Ok 0) now
   Refuses offset first length Failed now = (done : ℕ) × (done < length) × ZeroesThen offset first done (Err Failed) now
   Refuses offset first length OutOfMemory now = (done : ℕ) × (done < length) × ZeroesThen offset first done (Err OutOfMemory) now
+
+  -- A stream writes at the position, and then moves it (`M`: the file before, the place, the file after).
+  module _ (M : F → ℕ → F → Type 0) where
+    -- so many were written, all of them or fewer, and then the position was moved to their end
+    abbrev pub StreamsUpTo : ℕ → F → ℕ → ℕ → F → Type 0
+    StreamsUpTo offset first length done now =
+        (left : F) × ZeroesUpTo offset first length done left × M left (offset + done) now
+
+    -- all were written, and then the position was moved to their end
+    abbrev pub Streams : ℕ → F → ℕ → F → Type 0
+    Streams offset first length now = (left : F) × Zeroes offset first length left × M left (offset + length) now
+
+    -- the refusal is that of the write that ended it, or nothing was written; at a write of nothing the position was
+    -- moved to the end of what was written
+    abbrev pub RefusesStream : ℕ → F → ℕ → FileError → F → Type 0
+    RefusesStream offset first length EINVAL now = Refuses offset first length EINVAL now
+    RefusesStream offset first length WriteZero now =
+        (left : F) × (done : ℕ) × (done < length)
+        × ZeroesThen offset first done (Ok 0) left × M left (offset + done) now
+    RefusesStream offset first length Failed now = Refuses offset first length Failed now
+    RefusesStream offset first length OutOfMemory now = Refuses offset first length OutOfMemory now

@@ -21,7 +21,7 @@ enum Turn {
 /// A sparse file in memory: a block of bytes, and one bit a byte that says whether it is a hole. It is always
 /// writable, and writes whole pieces. For tests it fails at listed calls, and at listed ones of `write_at` it writes
 /// nothing; both lists number the calls that answer a `Result`, from 0, and a call on both fails.
-#[derive(Drop)]
+#[derive(Debug, Drop)]
 pub struct MemFile {
     bytes: Vec<u8>,
     words: Vec<u64>,
@@ -139,6 +139,8 @@ impl SparseFile for MemFile {
     ghost write_gives = { Writes };
 
     ghost flush_gives = { Flushes };
+
+    ghost move_gives = { λ old place new. new ≡ record old { cursor = place } };
 
     fn len(&self) -> u64 {
         self.bytes.as_slice().len() as u64

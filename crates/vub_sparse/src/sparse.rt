@@ -26,6 +26,9 @@ pub trait SparseFile {
     // what a flush may answer, and the file that it leaves then
     ghost flush_gives: { Self → Result (Unit {0}) FileError → Self → Type 0 };
 
+    // the file that a move of the position to this place leaves
+    ghost move_gives: { Self → ℕ → Self → Type 0 };
+
     /// The number of cells.
     fn len(&self) -> u64
         ensures { IfSome (cells self.now) (λ cs. result ≡ length cs) };
@@ -85,6 +88,7 @@ pub trait SparseFile {
 
     /// Moves the position.
     fn set_position(&mut self, place: u64)
+        ensures gives { move_gives self.old place self.new }
         ensures moved { cursor self.new ≡ place }
         ensures kept { cells self.new ≡ cells self.old }
         ensures faults { fault_count self.new ≡ fault_count self.old };
