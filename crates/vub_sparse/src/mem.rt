@@ -38,7 +38,14 @@ impl Model for MemFile {
 
     ghost Value = { MemState };
 
-    ghost view = { λ f. record { cells = cells_of f.bytes.items f.words.items; cursor = f.cursor; faults = f.faults; calls = f.calls; failing = f.failing.items; stalling = f.stalling.items } };
+    ghost view = { λ f. record {
+      cells = cells_of f.bytes.items f.words.items;
+      cursor = f.cursor;
+      faults = f.faults;
+      calls = f.calls;
+      failing = f.failing.items;
+      stalling = f.stalling.items;
+    } };
 
     ghost invariant = { λ f. Sound f.bytes.items f.words.items };
 }
@@ -108,7 +115,8 @@ impl MemFile {
 
     // counts a write, and whether it fails or writes nothing
     fn begins_write(&mut self) -> Turn
-        ensures turn { result ≡ (if fails self.old then Turn.Fails else (if stalls self.old then Turn.Stalls else Turn.Goes)) }
+        ensures turn { result ≡ (if fails self.old then Turn.Fails
+            else (if stalls self.old then Turn.Stalls else Turn.Goes)) }
         ensures called { Called self.old self.new (fails self.old || stalls self.old) }
         ensures kept { self.new.cells ≡ self.old.cells }
         ensures later { self.old.faults ≤ self.new.faults }

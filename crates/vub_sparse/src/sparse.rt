@@ -52,7 +52,8 @@ pub trait SparseFile {
     /// `Failed`, counted; want of memory.
     fn write_at(&mut self, alloc: Global, offset: u64, bytes: &[u8]) -> Result<usize, FileError>
         ensures bound { IfOk result (λ n. n ≤ length bytes.now) }
-        ensures ok { IfOk result (λ n. Told (cells self.old) (cells self.new) (λ old new. new ≡ written offset (take n bytes.now) old)) }
+        ensures ok { IfOk result (λ n. Told (cells self.old) (cells self.new)
+            (λ old new. new ≡ written offset (take n bytes.now) old)) }
         ensures err { OnErr result (cells self.new ≡ cells self.old) }
         ensures stays { cursor self.new ≡ cursor self.old }
         ensures stalled { result ≡ Ok 0 → 0 < length bytes.now → Rose (fault_count self.old) (fault_count self.new) }
@@ -73,7 +74,8 @@ pub trait SparseFile {
         hole: bool,
         keep_size: bool,
     ) -> Result<(), FileError>
-        ensures ok { OnOk result (Told (cells self.old) (cells self.new) (λ old new. new ≡ set offset len hole keep_size old)) }
+        ensures ok { OnOk result (Told (cells self.old) (cells self.new)
+            (λ old new. new ≡ set offset len hole keep_size old)) }
         ensures err { OnErr result (cells self.new ≡ cells self.old) }
         ensures stays { cursor self.new ≡ cursor self.old }
         ensures faults { Faults (fault_count self.old) (fault_count self.new) result };
