@@ -6,7 +6,7 @@ use crate::errno::{Error, Result};
 
 /// The value that a system call returned; -1 says that it failed.
 #[derive(Debug, Drop)]
-pub struct SyscallReturnCode<T: From<i8> + Eq>(pub T);
+pub struct SyscallReturnCode<T: From<i8> + Eq = i32>(pub T);
 
 impl<T: From<i8> + Eq + Drop> SyscallReturnCode<T> {
     /// The value, or the error with this number exactly where the value is -1.
