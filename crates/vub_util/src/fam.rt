@@ -110,7 +110,11 @@ impl<T: Default + FamStruct> FamStructWrapper<T> {
         if n > T::max_len() {
             return Err(Error::SizeLimitExceeded);
         }
-        let entries = vec![in alloc; T::zero_entry(); n]?;
+        let zero = T::zero_entry();
+        let mut entries = Vec::with_capacity(alloc, n)?;
+        for _place in 0..n {
+            entries.push(zero)?;
+        }
         Ok(Self::behind_default(entries))
     }
 
@@ -225,7 +229,8 @@ impl<T: Default + FamStruct> FamStructWrapper<T> {
         ensures limit { IsErrOf result Error.SizeLimitExceeded ↔ (T.limit ≤ length self.old.entries.items) }
         ensures entries { OnOk result (self.new.entries.items ≡ self.old.entries.items ++ entry ∷ []) }
         ensures header { OnOk result (self.new.header ≡ T.holding self.old.header (length self.old.entries.items + 1)) }
-        ensures err { OnErr result ((self.new.entries.items ≡ self.old.entries.items) × (self.new.header ≡ self.old.header)) }
+        ensures err { OnErr result ((self.new.entries.items ≡ self.old.entries.items)
+            × (self.new.header ≡ self.old.header)) }
     {
         if self.entries.len() >= T::max_len() {
             return Err(Error::SizeLimitExceeded);
@@ -240,7 +245,8 @@ impl<T: Default + FamStruct> FamStructWrapper<T> {
         requires { P.IsAlwaysCallable keep }
         ensures entries { IsFiltered (CalledAt P.FnMut) keep self.old.entries.items self.new.entries.items }
         ensures header { self.new.header ≡ T.holding self.old.header (length self.new.entries.items) }
-        ensures all { length self.new.entries.items ≡ length self.old.entries.items → self.new.header ≡ self.old.header }
+        ensures all { length self.new.entries.items ≡ length self.old.entries.items
+            → self.new.header ≡ self.old.header }
     {
         self.entries.retain(keep);
         self.header.set_len(self.entries.len());
