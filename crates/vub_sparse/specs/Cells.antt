@@ -1,5 +1,6 @@
 -- A sparse file is a list of cells. Each is a byte or a hole; a hole is read as 0.
-use Rattle.std.specs.Prelude.{ℕ, zero, suc, ◌+◌, ◌-◌, List, length, map, take, drop, min, max, Bool, true, false, nat_le, nat_lt, ◌&&◌, if◌then◌else◌, slice_index_or, slice_index}
+use Rattle.std.specs.Prelude.{ℕ, zero, suc, ◌+◌, ◌-◌, List, length, map, take, drop, min, max, Bool, true, false}
+use Rattle.std.specs.Prelude.{nat_le, nat_lt, ◌&&◌, if◌then◌else◌, slice_index_or, slice_index}
 use Rattle.std.specs.List.{range_with_len}
 
 pub data Cell : Type 0 where

@@ -1,5 +1,6 @@
 -- A sparse file in memory, as its calls see it.
-use Rattle.std.specs.Prelude.{◌≡◌, ◌↔◌, ℕ, Bool, true, not, ◌&&◌, ◌||◌, List, length, if◌then◌else◌, Result, IfOk, IsErrOf}
+use Rattle.std.specs.Prelude.{◌≡◌, ◌↔◌, ℕ, Bool, true, not, ◌&&◌, ◌||◌, List, length, if◌then◌else◌, Result, IfOk}
+use Rattle.std.specs.Prelude.{IsErrOf}
 use Rattle.vub_base.specs.Causes.{one_more, is_listed}
 use Rattle.vub_sparse.specs.Cells.{Cell}
 use Rattle.vub_sparse.specs.declared.error.FileError.{FileError}
@@ -31,9 +32,10 @@ pub record Called (old new : MemState) (fault : Bool) : Type 0 where
   pub stalling : new.stalling ≡ old.stalling
   pub cursor : new.cursor ≡ old.cursor
 
--- a write answers Failed exactly where it is to fail, and 0 where it is to write nothing; else it takes the whole piece,
--- unless memory was refused
-pub record Writes (old : MemState) (offset : ℕ) (piece : List ℕ) (result : Result ℕ FileError) (new : MemState) : Type 0 where
+-- a write answers Failed exactly where it is to fail, and 0 where it is to write nothing; else it takes the whole
+-- piece, unless memory was refused
+pub record Writes (old : MemState) (offset : ℕ) (piece : List ℕ) (result : Result ℕ FileError)
+    (new : MemState) : Type 0 where
   pub whole : IfOk result (λ n. n ≡ (if stalls old then 0 else length piece))
   pub failed : IsErrOf result Failed ↔ (fails old ≡ true)
   pub called : Called old new (fails old || stalls old)

@@ -18,9 +18,11 @@ pub record IsFirstData (cells : List Cell) (offset p : ℕ) : Type 0 where
 
 -- the next hole, or nothing exactly where the offset is at or past the end
 abbrev pub FindsHole : List Cell → ℕ → Option ℕ → Type 0
-FindsHole cells offset r = MatchOption r (length cells ≤ offset) (λ p. (offset < length cells) × IsFirstHole cells offset p)
+FindsHole cells offset r =
+    MatchOption r (length cells ≤ offset) (λ p. (offset < length cells) × IsFirstHole cells offset p)
 
 -- the next data, or nothing exactly where none follows
 abbrev pub FindsData : List Cell → ℕ → Option ℕ → Type 0
 FindsData cells offset r =
-    MatchOption r ((k : ℕ) → offset ≤ k → k < length cells → is_hole (cell_at cells k) ≡ true) (IsFirstData cells offset)
+    MatchOption r ((k : ℕ) → offset ≤ k → k < length cells → is_hole (cell_at cells k) ≡ true)
+    (IsFirstData cells offset)

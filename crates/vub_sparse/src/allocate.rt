@@ -34,10 +34,12 @@ pub fn fallocate<F: SparseFile>(
     len: u64,
 ) -> Result<(), FileError>
     ensures invalid { IsErrOf result FileError.EINVAL ↔ (may_allocate mode keep_size offset len ≡ false) }
-    ensures ok { OnOk result (Told (F.cells file.old) (F.cells file.new) (λ old new. new ≡ set offset len (punches mode) keep_size old)) }
+    ensures ok { OnOk result (Told (F.cells file.old) (F.cells file.new)
+        (λ old new. new ≡ set offset len (punches mode) keep_size old)) }
     ensures err { OnErr result (F.cells file.new ≡ F.cells file.old) }
     ensures stays { F.cursor file.new ≡ F.cursor file.old }
-    ensures faults { FaultsUnless (may_allocate mode keep_size offset len) (F.fault_count file.old) (F.fault_count file.new) result }
+    ensures faults { FaultsUnless (may_allocate mode keep_size offset len) (F.fault_count file.old)
+        (F.fault_count file.new) result }
 {
     let hole = mode == FallocateMode::PunchHole;
     if !is_in_range(offset, len) || (hole && !keep_size) {
@@ -62,10 +64,12 @@ pub trait PunchHole: SparseFile {
     /// counted; want of memory. Refused, nothing changes.
     fn punch_hole(&mut self, alloc: Global, offset: u64, length: u64) -> Result<(), FileError>
         ensures invalid { IsErrOf result FileError.EINVAL ↔ (in_range offset length ≡ false) }
-        ensures ok { OnOk result (Told (Self.cells self.old) (Self.cells self.new) (λ old new. new ≡ set offset length true true old)) }
+        ensures ok { OnOk result (Told (Self.cells self.old) (Self.cells self.new)
+            (λ old new. new ≡ set offset length true true old)) }
         ensures err { OnErr result (Self.cells self.new ≡ Self.cells self.old) }
         ensures stays { Self.cursor self.new ≡ Self.cursor self.old }
-        ensures faults { FaultsUnless (in_range offset length) (Self.fault_count self.old) (Self.fault_count self.new) result };
+        ensures faults { FaultsUnless (in_range offset length) (Self.fault_count self.old) (Self.fault_count self.new)
+            result };
 }
 
 impl<F: SparseFile> PunchHole for F {

@@ -21,7 +21,7 @@ enum Turn {
 /// A sparse file in memory: a block of bytes, and one bit a byte that says whether it is a hole. It is always
 /// writable, and writes whole pieces. For tests it fails at listed calls, and at listed ones of `write_at` it writes
 /// nothing; both lists number the calls that answer a `Result`, from 0, and a call on both fails.
-#[derive(Drop)]
+#[derive(Debug, Drop)]
 pub struct MemFile {
     bytes: Vec<u8>,
     words: Vec<u64>,
@@ -38,7 +38,14 @@ impl Model for MemFile {
 
     ghost Value = { MemState };
 
-    ghost view = { λ f. record { cells = cells_of f.bytes.items f.words.items; cursor = f.cursor; faults = f.faults; calls = f.calls; failing = f.failing.items; stalling = f.stalling.items } };
+    ghost view = { λ f. record {
+      cells = cells_of f.bytes.items f.words.items;
+      cursor = f.cursor;
+      faults = f.faults;
+      calls = f.calls;
+      failing = f.failing.items;
+      stalling = f.stalling.items;
+    } };
 
     ghost invariant = { λ f. Sound f.bytes.items f.words.items };
 }
@@ -108,7 +115,8 @@ impl MemFile {
 
     // counts a write, and whether it fails or writes nothing
     fn begins_write(&mut self) -> Turn
-        ensures turn { result ≡ (if fails self.old then Turn.Fails else (if stalls self.old then Turn.Stalls else Turn.Goes)) }
+        ensures turn { result ≡ (if fails self.old then Turn.Fails
+            else (if stalls self.old then Turn.Stalls else Turn.Goes)) }
         ensures called { Called self.old self.new (fails self.old || stalls self.old) }
         ensures kept { self.new.cells ≡ self.old.cells }
         ensures later { self.old.faults ≤ self.new.faults }
@@ -139,6 +147,8 @@ impl SparseFile for MemFile {
     ghost write_gives = { Writes };
 
     ghost flush_gives = { Flushes };
+
+    ghost move_gives = { λ old place new. new ≡ record old { cursor = place } };
 
     fn len(&self) -> u64 {
         self.bytes.as_slice().len() as u64

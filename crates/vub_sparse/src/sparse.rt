@@ -26,6 +26,9 @@ pub trait SparseFile {
     // what a flush may answer, and the file that it leaves then
     ghost flush_gives: { Self → Result (Unit {0}) FileError → Self → Type 0 };
 
+    // the file that a move of the position to this place leaves
+    ghost move_gives: { Self → ℕ → Self → Type 0 };
+
     /// The number of cells.
     fn len(&self) -> u64
         ensures { IfSome (cells self.now) (λ cs. result ≡ length cs) };
@@ -49,7 +52,8 @@ pub trait SparseFile {
     /// `Failed`, counted; want of memory.
     fn write_at(&mut self, alloc: Global, offset: u64, bytes: &[u8]) -> Result<usize, FileError>
         ensures bound { IfOk result (λ n. n ≤ length bytes.now) }
-        ensures ok { IfOk result (λ n. Told (cells self.old) (cells self.new) (λ old new. new ≡ written offset (take n bytes.now) old)) }
+        ensures ok { IfOk result (λ n. Told (cells self.old) (cells self.new)
+            (λ old new. new ≡ written offset (take n bytes.now) old)) }
         ensures err { OnErr result (cells self.new ≡ cells self.old) }
         ensures stays { cursor self.new ≡ cursor self.old }
         ensures stalled { result ≡ Ok 0 → 0 < length bytes.now → Rose (fault_count self.old) (fault_count self.new) }
@@ -70,7 +74,8 @@ pub trait SparseFile {
         hole: bool,
         keep_size: bool,
     ) -> Result<(), FileError>
-        ensures ok { OnOk result (Told (cells self.old) (cells self.new) (λ old new. new ≡ set offset len hole keep_size old)) }
+        ensures ok { OnOk result (Told (cells self.old) (cells self.new)
+            (λ old new. new ≡ set offset len hole keep_size old)) }
         ensures err { OnErr result (cells self.new ≡ cells self.old) }
         ensures stays { cursor self.new ≡ cursor self.old }
         ensures faults { Faults (fault_count self.old) (fault_count self.new) result };
@@ -85,6 +90,7 @@ pub trait SparseFile {
 
     /// Moves the position.
     fn set_position(&mut self, place: u64)
+        ensures gives { move_gives self.old place self.new }
         ensures moved { cursor self.new ≡ place }
         ensures kept { cells self.new ≡ cells self.old }
         ensures faults { fault_count self.new ≡ fault_count self.old };

@@ -10,7 +10,8 @@ use std::alloc::{AllocError, Global};
 pub(crate) fn reach(bytes: &mut Vec<u8>, words: &mut Vec<u64>, end: usize) -> Result<(), AllocError>
     requires { Sound bytes.old.items words.old.items }
     ensures sound { Sound bytes.new.items words.new.items }
-    ensures cells { OnOk result (cells_of bytes.new.items words.new.items ≡ resized (max (length bytes.old.items) end) (cells_of bytes.old.items words.old.items)) }
+    ensures cells { OnOk result (cells_of bytes.new.items words.new.items ≡ resized (max (length bytes.old.items) end)
+        (cells_of bytes.old.items words.old.items)) }
     ensures long { OnOk result (length bytes.new.items ≡ max (length bytes.old.items) end) }
     ensures err { OnErr result (cells_of bytes.new.items words.new.items ≡ cells_of bytes.old.items words.old.items) }
     ensures inside { end ≤ length bytes.old.items → IsOk result }
@@ -62,7 +63,8 @@ pub(crate) fn write(
     requires sound { Sound bytes.old.items words.old.items }
     requires some { 0 < length piece.now }
     ensures sound { Sound bytes.new.items words.new.items }
-    ensures ok { OnOk result (cells_of bytes.new.items words.new.items ≡ written offset piece.now (cells_of bytes.old.items words.old.items)) }
+    ensures ok { OnOk result (cells_of bytes.new.items words.new.items ≡ written offset piece.now
+        (cells_of bytes.old.items words.old.items)) }
     ensures err { OnErr result (cells_of bytes.new.items words.new.items ≡ cells_of bytes.old.items words.old.items) }
     ensures inside { offset + length piece.now ≤ length bytes.old.items → IsOk result }
 {
@@ -86,7 +88,8 @@ pub(crate) fn set(
     requires sound { Sound bytes.old.items words.old.items }
     requires some { 0 < count }
     ensures sound { Sound bytes.new.items words.new.items }
-    ensures ok { OnOk result (cells_of bytes.new.items words.new.items ≡ covered offset count (λ k. blank hole) (cells_of bytes.old.items words.old.items)) }
+    ensures ok { OnOk result (cells_of bytes.new.items words.new.items ≡ covered offset count
+        (λ k. blank hole) (cells_of bytes.old.items words.old.items)) }
     ensures err { OnErr result (cells_of bytes.new.items words.new.items ≡ cells_of bytes.old.items words.old.items) }
     ensures inside { offset + count ≤ length bytes.old.items → IsOk result }
 {
@@ -104,7 +107,8 @@ fn put(bytes: &mut Vec<u8>, words: &mut Vec<u64>, offset: usize, piece: &[u8])
     requires sound { Sound bytes.old.items words.old.items }
     requires inside { offset + length piece.now ≤ length bytes.old.items }
     ensures sound { Sound bytes.new.items words.new.items }
-    ensures cells { cells_of bytes.new.items words.new.items ≡ replaced offset (length piece.now) (λ k. Byte (slice_index piece.now k)) (cells_of bytes.old.items words.old.items) }
+    ensures cells { cells_of bytes.new.items words.new.items ≡ replaced offset (length piece.now)
+        (λ k. Byte (slice_index piece.now k)) (cells_of bytes.old.items words.old.items) }
 {
     let end = offset + piece.len();
     copy(bytes, offset, piece);
@@ -123,7 +127,8 @@ fn clear(bytes: &mut Vec<u8>, words: &mut Vec<u64>, offset: usize, count: usize,
     requires sound { Sound bytes.old.items words.old.items }
     requires inside { offset + count ≤ length bytes.old.items }
     ensures sound { Sound bytes.new.items words.new.items }
-    ensures cells { cells_of bytes.new.items words.new.items ≡ replaced offset count (λ k. blank hole) (cells_of bytes.old.items words.old.items) }
+    ensures cells { cells_of bytes.new.items words.new.items ≡ replaced offset count
+        (λ k. blank hole) (cells_of bytes.old.items words.old.items) }
 {
     let end = offset + count;
     zero(bytes, offset, count);
@@ -145,7 +150,8 @@ pub(crate) fn resize(
 ) -> Result<(), AllocError>
     requires { Sound bytes.old.items words.old.items }
     ensures sound { Sound bytes.new.items words.new.items }
-    ensures ok { OnOk result (cells_of bytes.new.items words.new.items ≡ resized length (cells_of bytes.old.items words.old.items)) }
+    ensures ok { OnOk result (cells_of bytes.new.items words.new.items ≡ resized length
+        (cells_of bytes.old.items words.old.items)) }
     ensures err { OnErr result (cells_of bytes.new.items words.new.items ≡ cells_of bytes.old.items words.old.items) }
 {
     if length < bytes.len() {

@@ -145,6 +145,7 @@ fn listed_calls_fail_or_write_nothing(rt: HostRuntime) -> Result<(), Fail> {
     assert_eq!(rt; file.set_len(rt.alloc(), 0), Err(FileError::Failed));
     assert_eq!(rt; file.faults(), 5);
     assert_eq!(rt; shown(rt.alloc(), &mut file)?.as_str(), "x.cd");
+    assert_eq!(rt; file.position(), 0);
     let text = format!(in rt.alloc();
         "{}; {}; {}; {}",
         FileError::EINVAL,
@@ -156,5 +157,26 @@ fn listed_calls_fail_or_write_nothing(rt: HostRuntime) -> Result<(), Fail> {
         text.as_str(),
         "Invalid argument (os error 22); failed to write whole buffer; the file failed; out of memory"
     );
+    Ok(())
+}
+
+#[test]
+fn types_are_shown(rt: HostRuntime) -> Result<(), Fail> {
+    let alloc = rt.alloc();
+    let mut file = MemFile::from_slice(alloc, b"a", vec![in alloc; 5]?, Vec::new(alloc))?;
+    file.set_position(1);
+    for (shown, text) in [
+        (
+            format!(in alloc; "{file:?}")?,
+            "MemFile { bytes: [97], words: [0], cursor: 1, faults: 0, calls: 0, failing: [5], stalling: [] }",
+        ),
+        (
+            format!(in alloc; "{:?}", FallocateMode::PunchHole)?,
+            "PunchHole",
+        ),
+        (format!(in alloc; "{:?}", FileError::EINVAL)?, "EINVAL"),
+    ] {
+        assert_eq!(rt; shown.as_str(), text);
+    }
     Ok(())
 }

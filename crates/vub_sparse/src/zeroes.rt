@@ -3,7 +3,7 @@ ghost use Rattle.vub_base.specs.Causes.{Rose};
 ghost use Rattle.vub_base.specs.Told.{Told};
 ghost use Rattle.vub_sparse.specs.Cells.{zeroed};
 ghost use Rattle.vub_sparse.specs.Refusals.{greatest, FaultsUnless, FaultsOrStalls};
-ghost use Rattle.vub_sparse.specs.Zeroing.{Answers, Zeroes, ZeroesUpTo, Refuses};
+ghost use Rattle.vub_sparse.specs.Zeroing.{Answers, Zeroes, ZeroesUpTo, Refuses, StreamsUpTo, Streams, RefusesStream};
 
 use crate::allocate::GREATEST;
 use crate::error::FileError;
@@ -32,13 +32,16 @@ pub trait WriteZeroesAt: SparseFile {
         ensures invalid { IsErrOf result FileError.EINVAL ↔ (greatest < offset + length) }
         ensures bound { IfOk result (λ n. n ≤ length) }
         ensures short { IfOk result (λ n. n < length → Rose (Self.fault_count self.old) (Self.fault_count self.new)) }
-        ensures ok { IfOk result (λ n. Told (Self.cells self.old) (Self.cells self.new) (λ old new. new ≡ zeroed offset n old)) }
-        ensures err { OnErr result ((n : ℕ) × (n ≤ length) × Told (Self.cells self.old) (Self.cells self.new) (λ old new. new ≡ zeroed offset n old)) }
+        ensures ok { IfOk result (λ n. Told (Self.cells self.old) (Self.cells self.new)
+            (λ old new. new ≡ zeroed offset n old)) }
+        ensures err { OnErr result ((n : ℕ) × (n ≤ length)
+            × Told (Self.cells self.old) (Self.cells self.new) (λ old new. new ≡ zeroed offset n old)) }
         ensures unchanged { IsErrOf result FileError.EINVAL → Self.cells self.new ≡ Self.cells self.old }
         ensures stays { Self.cursor self.new ≡ Self.cursor self.old }
         ensures writes { IfOk result (λ n. ZeroesUpTo Self.write_gives offset self.old length n self.new) }
         ensures refused { IfErr result (λ e. Refuses Self.write_gives offset self.old length e self.new) }
-        ensures faults { FaultsUnless (nat_le (offset + length) greatest) (Self.fault_count self.old) (Self.fault_count self.new) result };
+        ensures faults { FaultsUnless (nat_le (offset + length) greatest) (Self.fault_count self.old)
+            (Self.fault_count self.new) result };
 
     /// Writes `length` zero bytes at `offset`. The file grows where they end past its end.
     ///
@@ -51,13 +54,16 @@ pub trait WriteZeroesAt: SparseFile {
         length: usize,
     ) -> Result<(), FileError>
         ensures invalid { IsErrOf result FileError.EINVAL ↔ (greatest < offset + length) }
-        ensures ok { OnOk result (Told (Self.cells self.old) (Self.cells self.new) (λ old new. new ≡ zeroed offset length old)) }
-        ensures err { OnErr result ((n : ℕ) × (n ≤ length) × Told (Self.cells self.old) (Self.cells self.new) (λ old new. new ≡ zeroed offset n old)) }
+        ensures ok { OnOk result (Told (Self.cells self.old) (Self.cells self.new)
+            (λ old new. new ≡ zeroed offset length old)) }
+        ensures err { OnErr result ((n : ℕ) × (n ≤ length)
+            × Told (Self.cells self.old) (Self.cells self.new) (λ old new. new ≡ zeroed offset n old)) }
         ensures unchanged { IsErrOf result FileError.EINVAL → Self.cells self.new ≡ Self.cells self.old }
         ensures stays { Self.cursor self.new ≡ Self.cursor self.old }
         ensures writes { OnOk result (Zeroes Self.write_gives offset self.old length self.new) }
         ensures refused { IfErr result (λ e. Refuses Self.write_gives offset self.old length e self.new) }
-        ensures faults { FaultsOrStalls (nat_le (offset + length) greatest) (Self.fault_count self.old) (Self.fault_count self.new) result };
+        ensures faults { FaultsOrStalls (nat_le (offset + length) greatest) (Self.fault_count self.old)
+            (Self.fault_count self.new) result };
 }
 
 impl<F: SparseFile> WriteZeroesAt for F {
@@ -131,32 +137,47 @@ pub trait WriteZeroes: SparseFile {
     /// nothing, which the file counted. The position moves by them.
     ///
     /// # Errors
-    /// As [`WriteZeroesAt::write_zeroes_at`]. The position has moved by at most what was written.
+    /// As [`WriteZeroesAt::write_zeroes_at`]. The position has not moved.
     fn write_zeroes(&mut self, alloc: Global, length: usize) -> Result<usize, FileError>
         ensures invalid { IsErrOf result FileError.EINVAL ↔ (greatest < Self.cursor self.old + length) }
         ensures bound { IfOk result (λ n. n ≤ length) }
         ensures short { IfOk result (λ n. n < length → Rose (Self.fault_count self.old) (Self.fault_count self.new)) }
-        ensures ok { IfOk result (λ n. Told (Self.cells self.old) (Self.cells self.new) (λ old new. new ≡ zeroed (Self.cursor self.old) n old)) }
+        ensures ok { IfOk result (λ n. Told (Self.cells self.old) (Self.cells self.new)
+            (λ old new. new ≡ zeroed (Self.cursor self.old) n old)) }
         ensures moved { IfOk result (λ n. Self.cursor self.new ≡ Self.cursor self.old + n) }
-        ensures err { OnErr result ((n : ℕ) × (n ≤ length) × Told (Self.cells self.old) (Self.cells self.new) (λ old new. new ≡ zeroed (Self.cursor self.old) n old) × (Self.cursor self.old ≤ Self.cursor self.new) × (Self.cursor self.new ≤ Self.cursor self.old + n)) }
-        ensures unchanged { IsErrOf result FileError.EINVAL → (Self.cells self.new ≡ Self.cells self.old) × (Self.cursor self.new ≡ Self.cursor self.old) }
-        ensures writes { IfOk result (λ n. (left : Self) × ZeroesUpTo Self.write_gives (Self.cursor self.old) self.old length n left) }
-        ensures refused { IfErr result (λ e. (left : Self) × Refuses Self.write_gives (Self.cursor self.old) self.old length e left) }
-        ensures faults { FaultsUnless (nat_le (Self.cursor self.old + length) greatest) (Self.fault_count self.old) (Self.fault_count self.new) result };
+        ensures err { OnErr result ((n : ℕ) × (n ≤ length)
+            × Told (Self.cells self.old) (Self.cells self.new) (λ old new. new ≡ zeroed (Self.cursor self.old) n old)
+            × (Self.cursor self.old ≤ Self.cursor self.new) × (Self.cursor self.new ≤ Self.cursor self.old + n)) }
+        ensures unchanged { IsErrOf result FileError.EINVAL → (Self.cells self.new ≡ Self.cells self.old)
+            × (Self.cursor self.new ≡ Self.cursor self.old) }
+        ensures writes { IfOk result (λ n.
+            StreamsUpTo Self.write_gives Self.move_gives (Self.cursor self.old) self.old length n self.new) }
+        ensures refused { IfErr result (λ e.
+            Refuses Self.write_gives (Self.cursor self.old) self.old length e self.new) }
+        ensures faults { FaultsUnless (nat_le (Self.cursor self.old + length) greatest) (Self.fault_count self.old)
+            (Self.fault_count self.new) result };
 
     /// Writes `length` zero bytes at the position, which moves by them.
     ///
     /// # Errors
-    /// As [`WriteZeroes::write_zeroes`]; `WriteZero` where a write wrote nothing, which the file counted.
+    /// As [`WriteZeroes::write_zeroes`]; `WriteZero` where a write wrote nothing, which the file counted. Then the
+    /// position has moved by what was written.
     fn write_all_zeroes(&mut self, alloc: Global, length: usize) -> Result<(), FileError>
         ensures invalid { IsErrOf result FileError.EINVAL ↔ (greatest < Self.cursor self.old + length) }
-        ensures ok { OnOk result (Told (Self.cells self.old) (Self.cells self.new) (λ old new. new ≡ zeroed (Self.cursor self.old) length old)) }
+        ensures ok { OnOk result (Told (Self.cells self.old) (Self.cells self.new)
+            (λ old new. new ≡ zeroed (Self.cursor self.old) length old)) }
         ensures moved { OnOk result (Self.cursor self.new ≡ Self.cursor self.old + length) }
-        ensures err { OnErr result ((n : ℕ) × (n ≤ length) × Told (Self.cells self.old) (Self.cells self.new) (λ old new. new ≡ zeroed (Self.cursor self.old) n old) × (Self.cursor self.old ≤ Self.cursor self.new) × (Self.cursor self.new ≤ Self.cursor self.old + n)) }
-        ensures unchanged { IsErrOf result FileError.EINVAL → (Self.cells self.new ≡ Self.cells self.old) × (Self.cursor self.new ≡ Self.cursor self.old) }
-        ensures writes { OnOk result ((left : Self) × Zeroes Self.write_gives (Self.cursor self.old) self.old length left) }
-        ensures refused { IfErr result (λ e. (left : Self) × Refuses Self.write_gives (Self.cursor self.old) self.old length e left) }
-        ensures faults { FaultsOrStalls (nat_le (Self.cursor self.old + length) greatest) (Self.fault_count self.old) (Self.fault_count self.new) result };
+        ensures err { OnErr result ((n : ℕ) × (n ≤ length)
+            × Told (Self.cells self.old) (Self.cells self.new) (λ old new. new ≡ zeroed (Self.cursor self.old) n old)
+            × (Self.cursor self.old ≤ Self.cursor self.new) × (Self.cursor self.new ≤ Self.cursor self.old + n)) }
+        ensures unchanged { IsErrOf result FileError.EINVAL → (Self.cells self.new ≡ Self.cells self.old)
+            × (Self.cursor self.new ≡ Self.cursor self.old) }
+        ensures writes { OnOk result
+            (Streams Self.write_gives Self.move_gives (Self.cursor self.old) self.old length self.new) }
+        ensures refused { IfErr result (λ e.
+            RefusesStream Self.write_gives Self.move_gives (Self.cursor self.old) self.old length e self.new) }
+        ensures faults { FaultsOrStalls (nat_le (Self.cursor self.old + length) greatest) (Self.fault_count self.old)
+            (Self.fault_count self.new) result };
 }
 
 impl<F: SparseFile> WriteZeroes for F {

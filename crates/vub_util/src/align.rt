@@ -11,7 +11,8 @@ pub fn align_downwards(addr: u64, alignment: u64) -> u64
     addr - (addr & (alignment - 1))
 }
 
-/// The least multiple of `alignment`, a power of two, that isn't below `addr`, or `None` exactly where that passes `u64::MAX`.
+/// The least multiple of `alignment`, a power of two, that isn't below `addr`, or `None` exactly where that passes
+/// `u64::MAX`.
 pub fn align_upwards(addr: u64, alignment: u64) -> Option<u64>
     requires { IsTrue (is_power_of_two alignment) }
     ensures { MatchOption result (NoneAbove alignment addr) (IsAlignedAbove alignment addr) }

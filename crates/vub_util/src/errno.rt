@@ -83,6 +83,8 @@ impl fmt::Display for Error {
     }
 }
 
+impl std::error::Error for Error {}
+
 // The text of an error number, where it has one.
 fn text_of(errno: i32) -> Option<&'static str>
     ensures { option_copied result ≡ errno_text errno }

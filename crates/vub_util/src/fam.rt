@@ -72,6 +72,10 @@ pub trait FamStruct: Drop {
     fn zero_entry() -> Self::Entry
         ensures { result ≡ zero };
 
+    /// A copy of the header, which is plain data.
+    fn copy(&self) -> Self
+        ensures { result ≡ self.now };
+
     // a length that was put in is the one that is held, and takes the place of the last one; to put in the one that is
     // held changes nothing
     ghost holds: { (h : Self) (n : ℕ) → n ≤ limit → held (holding h n) ≡ n };
@@ -220,12 +224,13 @@ impl<T: Default + FamStruct> FamStructWrapper<T> {
     /// Appends an entry.
     ///
     /// # Errors
-    /// `SizeLimitExceeded` exactly where the length is the greatest one. Refused, nothing changes.
-    pub fn push(&mut self, entry: T::Entry) -> Result<(), Error>
+    /// `SizeLimitExceeded` exactly where the length is the greatest one; want of memory. Refused, nothing changes.
+    pub fn push(&mut self, _alloc: Global, entry: T::Entry) -> Result<(), Error>
         ensures limit { IsErrOf result Error.SizeLimitExceeded ↔ (T.limit ≤ length self.old.entries.items) }
         ensures entries { OnOk result (self.new.entries.items ≡ self.old.entries.items ++ entry ∷ []) }
         ensures header { OnOk result (self.new.header ≡ T.holding self.old.header (length self.old.entries.items + 1)) }
-        ensures err { OnErr result ((self.new.entries.items ≡ self.old.entries.items) × (self.new.header ≡ self.old.header)) }
+        ensures err { OnErr result ((self.new.entries.items ≡ self.old.entries.items)
+            × (self.new.header ≡ self.old.header)) }
     {
         if self.entries.len() >= T::max_len() {
             return Err(Error::SizeLimitExceeded);
@@ -240,10 +245,23 @@ impl<T: Default + FamStruct> FamStructWrapper<T> {
         requires { P.IsAlwaysCallable keep }
         ensures entries { IsFiltered (CalledAt P.FnMut) keep self.old.entries.items self.new.entries.items }
         ensures header { self.new.header ≡ T.holding self.old.header (length self.new.entries.items) }
-        ensures all { length self.new.entries.items ≡ length self.old.entries.items → self.new.header ≡ self.old.header }
+        ensures all { length self.new.entries.items ≡ length self.old.entries.items
+            → self.new.header ≡ self.old.header }
     {
         self.entries.retain(keep);
         self.header.set_len(self.entries.len());
+    }
+
+    /// A copy of the header and of the entries.
+    ///
+    /// # Errors
+    /// Want of memory.
+    pub fn clone(&self, _alloc: Global) -> Result<FamStructWrapper<T>, Error>
+        ensures header { IfOk result (λ w. w.header ≡ self.now.header) }
+        ensures entries { IfOk result (λ w. w.entries.items ≡ self.now.entries.items) }
+        ensures error { OnErr result (IsErrOf result Error.OutOfMemory) }
+    {
+        Ok(Clone::clone(self)?)
     }
 }
 
@@ -264,11 +282,11 @@ where
     }
 }
 
-impl<T: Default + FamStruct + Copy> Clone for FamStructWrapper<T> {
+impl<T: Default + FamStruct> Clone for FamStructWrapper<T> {
     ghost is_clone = { λ w c. (c.header ≡ w.header) × (c.entries.items ≡ w.entries.items) };
 
     fn clone(&self) -> Result<FamStructWrapper<T>, AllocError> {
-        let header = self.header;
+        let header = self.header.copy();
         let entries = Vec::from_slice(*self.entries.allocator(), self.entries.as_slice())?;
         Ok(FamStructWrapper { header, entries })
     }

@@ -6,12 +6,13 @@ use crate::errno::{Error, Result};
 
 /// The value that a system call returned; -1 says that it failed.
 #[derive(Debug, Drop)]
-pub struct SyscallReturnCode<T: From<i8> + Eq>(pub T);
+pub struct SyscallReturnCode<T: From<i8> + Eq = i32>(pub T);
 
 impl<T: From<i8> + Eq + Drop> SyscallReturnCode<T> {
     /// The value, or the error with this number exactly where the value is -1.
     pub fn into_result(self, errno: i32) -> Result<T>
-        ensures { (failed : T) × T.From.from_gives (negsuc 0) failed × ReturnsUnless (T.eq self.0 failed) self.0 errno result }
+        ensures { (failed : T) × T.From.from_gives (negsuc 0) failed
+            × ReturnsUnless (T.eq self.0 failed) self.0 errno result }
     {
         if self.0 == T::from(-1) {
             Err(Error::last(errno))
@@ -22,7 +23,8 @@ impl<T: From<i8> + Eq + Drop> SyscallReturnCode<T> {
 
     /// Nothing, or the error with this number exactly where the value is -1.
     pub fn into_empty_result(self, errno: i32) -> Result<()>
-        ensures { (failed : T) × T.From.from_gives (negsuc 0) failed × SucceedsUnless (T.eq self.0 failed) errno result }
+        ensures { (failed : T) × T.From.from_gives (negsuc 0) failed
+            × SucceedsUnless (T.eq self.0 failed) errno result }
     {
         self.into_result(errno)?;
         Ok(())

@@ -75,21 +75,21 @@ impl TempDir {
     ///
     /// # Errors
     /// The system's number; want of memory. Never `Taken`.
-    pub fn remove<R: Files>(&mut self, rt: &R, alloc: Global) -> Result<(), TempError>
+    pub fn remove<R: Files>(&mut self, rt: &R) -> Result<(), TempError>
         ensures kept { self.new ≡ self.old }
         ensures refused { IfErr result (λ e. e ≢ TempError.Taken) }
     {
-        removed(rt.remove_dir_all(alloc, self.path.as_str()))
+        removed(rt.remove_dir_all(*self.path.allocator(), self.path.as_str()))
     }
 
     /// Removes the directory and all that is inside.
     ///
     /// # Errors
     /// The system's number; want of memory. Never `Taken`.
-    pub fn close<R: Files>(self, rt: &R, alloc: Global) -> Result<(), TempError>
+    pub fn close<R: Files>(self, rt: &R) -> Result<(), TempError>
         ensures { IfErr result (λ e. e ≢ TempError.Taken) }
     {
         let TempDir { path } = self;
-        removed(rt.remove_dir_all(alloc, path.as_str()))
+        removed(rt.remove_dir_all(*path.allocator(), path.as_str()))
     }
 }

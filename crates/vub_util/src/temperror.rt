@@ -55,7 +55,8 @@ fn removal_refusal(refused: io::Error) -> TempError
 // What the removal of a name answers, by what the system answered.
 pub(crate) fn removed(answer: io::Result<()>) -> Result<(), TempError>
     ensures ok { IsOk result ↔ IsOk answer }
-    ensures err { IfErr answer (λ e. IsErrOf result (removal_refusal_of (error_kind e) (unwrap_or (raw_os_error e) (pos 0)))) }
+    ensures err { IfErr answer (λ e. IsErrOf result
+        (removal_refusal_of (error_kind e) (unwrap_or (raw_os_error e) (pos 0)))) }
     ensures never { IfErr result (λ e. e ≢ TempError.Taken) }
 {
     match answer {

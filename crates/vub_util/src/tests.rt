@@ -9,7 +9,7 @@ use crate::syscall::SyscallReturnCode;
 use crate::tempdir::TempDir;
 use crate::temperror::TempError;
 use crate::tempfile::TempFile;
-use std::alloc::AllocError;
+use std::alloc::{AllocError, Global};
 use std::io::{self, Read, Seek, SeekFrom, Write};
 use std::sync::atomic::AtomicU64;
 use std::test::Fail;
@@ -62,8 +62,44 @@ fn errors_carry_and_print_their_number(rt: HostRuntime) -> Result<(), Fail> {
         let printed = format!(in rt.alloc(); "{}", Error::new(number))?;
         assert_eq!(rt; printed.as_str(), text);
     }
-    let debug = format!(in rt.alloc(); "{bad:?}")?;
-    assert_eq!(rt; debug.as_str(), "Error(9)");
+    Ok(())
+}
+
+// the text of an error, through the trait of errors
+fn message<E: std::error::Error>(alloc: Global, error: E) -> Result<String, AllocError> {
+    format!(in alloc; "{error}")
+}
+
+#[test]
+fn types_are_shown(rt: HostRuntime) -> Result<(), Fail> {
+    let alloc = rt.alloc();
+    // the type of the value is left out, so it is C's int
+    let failed: SyscallReturnCode = SyscallReturnCode(-1);
+    for (shown, text) in [
+        (format!(in alloc; "{:?}", Error::new(9))?, "Error(9)"),
+        (
+            message(alloc, Error::new(9))?,
+            "Bad file descriptor (os error 9)",
+        ),
+        (format!(in alloc; "{failed:?}")?, "SyscallReturnCode(-1)"),
+        (
+            format!(in alloc; "{:?}", fam::Error::SizeLimitExceeded)?,
+            "SizeLimitExceeded",
+        ),
+        (
+            message(alloc, fam::Error::SizeLimitExceeded)?,
+            "The max size has been exceeded",
+        ),
+        (message(alloc, fam::Error::OutOfMemory)?, "out of memory"),
+        (
+            format!(in alloc; "{:?}", FamStructWrapper::<Header>::new(alloc, 1)?)?,
+            "FamStructWrapper { header: Header { kind: 0, count: 1 }, entries: [0] }",
+        ),
+        (format!(in alloc; "{:?}", TempError::Os(2))?, "Os(2)"),
+        (message(alloc, TempError::Os(2))?, "os error 2"),
+    ] {
+        assert_eq!(rt; shown.as_str(), text);
+    }
     Ok(())
 }
 
@@ -107,8 +143,8 @@ fn counters_count_and_wrap(rt: HostRuntime) {
     assert_eq!(rt; counter.count(), 1);
 }
 
-// a header that holds the length in 16 bits beside another number
-#[derive(Clone, Copy, Debug, Default, PartialEq, Eq)]
+// a header that holds the length in 16 bits beside another number; it has no copy but that of its trait
+#[derive(Debug, Default, Drop, PartialEq, Eq)]
 struct Header {
     kind: u8,
     count: u16,
@@ -148,6 +184,13 @@ impl FamStruct for Header {
     fn zero_entry() -> u32 {
         0
     }
+
+    fn copy(&self) -> Header {
+        Header {
+            kind: self.kind,
+            count: self.count,
+        }
+    }
 }
 
 // what is written through the lent slice is in the list afterwards, and the header stands
@@ -169,16 +212,16 @@ fn the_list_keeps_to_its_header(rt: HostRuntime) -> Result<(), Fail> {
     let mut full = FamStructWrapper::<Header>::new(rt.alloc(), 10)?;
     assert_eq!(rt; full.as_slice(), [0u32; 10].as_slice());
     assert_eq!(rt; full.as_fam_struct_ref().count, 10);
-    assert_eq!(rt; full.push(7), Err(fam::Error::SizeLimitExceeded));
+    assert_eq!(rt; full.push(alloc, 7), Err(fam::Error::SizeLimitExceeded));
     assert_eq!(rt; full.len(), 10);
 
     let mut odd = FamStructWrapper::<Header>::from_entries(rt.alloc(), &[1, 2, 3])?;
     odd.retain(|entry| *entry % 2 == 1);
     assert_eq!(rt; odd.as_slice(), [1, 3].as_slice());
     assert_eq!(rt; odd.as_fam_struct_ref().len(), 2);
-    let mut copy = odd.clone()?;
+    let mut copy = odd.clone(alloc)?;
     assert!(rt; copy == odd);
-    copy.push(5)?;
+    copy.push(alloc, 5)?;
     assert_eq!(rt; copy.as_slice(), [1, 3, 5].as_slice());
     assert!(rt; copy != odd);
     for entry in copy.as_mut_slice() {
@@ -198,27 +241,13 @@ fn parts_must_fit_each_other(rt: HostRuntime) -> Result<(), Fail> {
     for (count, entries, fits) in [(0, 0, true), (2, 2, true), (2, 3, false), (11, 11, false)] {
         let header = Header { kind: 4, count };
         let list = vec![in rt.alloc(); 8u32; entries]?;
-        match FamStructWrapper::from_parts(header, list) {
-            Ok(made) => assert!(rt; fits && made.as_fam_struct_ref().kind == 4),
-            Err(error) => assert!(rt; !fits && error == fam::Error::SizeLimitExceeded),
+        match FamStructWrapper::from_parts(header.copy(), list) {
+            Ok(made) => assert_eq!(rt; (fits, made.as_fam_struct_ref().kind), (true, 4)),
+            Err(error) => assert_eq!(rt; (fits, error), (false, fam::Error::SizeLimitExceeded)),
         }
         let alone = FamStructWrapper::from_header(rt.alloc(), header);
         assert_eq!(rt; alone.is_ok(), count == 0);
     }
-    let text = format!(in rt.alloc();
-        "{}, {}",
-        fam::Error::SizeLimitExceeded,
-        fam::Error::OutOfMemory
-    )?;
-    assert_eq!(rt;
-        text.as_str(),
-        "The max size has been exceeded, out of memory"
-    );
-    let shown = format!(in rt.alloc(); "{:?}", FamStructWrapper::<Header>::new(rt.alloc(), 1)?)?;
-    assert_eq!(rt;
-        shown.as_str(),
-        "FamStructWrapper { header: Header { kind: 0, count: 1 }, entries: [0] }"
-    );
     Ok(())
 }
 
@@ -251,9 +280,7 @@ fn a_directory_name_is_taken_once(rt: HostRuntime) -> Result<(), Fail> {
     );
     let within = String::from_str(rt.alloc(), first.as_path()).expect(&rt, "memory");
     match TempDir::new_with_prefix(&rt, rt.alloc(), prefix.as_str(), "aaaaaa") {
-        Ok(second) => second
-            .close(&rt, rt.alloc())
-            .expect(&rt, "the second directory"),
+        Ok(second) => second.close(&rt).expect(&rt, "the second directory"),
         Err(refused) => assert_eq!(rt; refused, TempError::Taken),
     }
     assert!(rt; fs::metadata(&rt, within.as_str()).is_ok_and(|m| m.is_dir()));
@@ -271,19 +298,17 @@ fn a_directory_name_is_taken_once(rt: HostRuntime) -> Result<(), Fail> {
         &rt,
         "a second directory inside",
     );
-    assert_eq!(rt; inner.remove(&rt, rt.alloc()), Ok(()));
-    assert_eq!(rt; inner.remove(&rt, rt.alloc()), Err(TempError::Os(2)));
+    assert_eq!(rt; inner.remove(&rt), Ok(()));
+    assert_eq!(rt; inner.remove(&rt), Err(TempError::Os(2)));
     assert!(rt; inner.as_path().ends_with("/c"));
     assert!(rt; second.as_path().ends_with("/d"));
     assert!(rt; other.as_path().ends_with("/e"));
-    first
-        .close(&rt, rt.alloc())
-        .expect(&rt, "the directory's name");
+    first.close(&rt).expect(&rt, "the directory's name");
     assert!(rt; fs::metadata(&rt, within.as_str()).is_err());
     assert_eq!(rt; file.close(&rt), Err(TempError::Os(2)));
-    assert_eq!(rt; inner.close(&rt, rt.alloc()), Err(TempError::Os(2)));
+    assert_eq!(rt; inner.close(&rt), Err(TempError::Os(2)));
     assert_eq!(rt; second.close(&rt), Err(TempError::Os(2)));
-    assert_eq!(rt; other.close(&rt, rt.alloc()), Err(TempError::Os(2)));
+    assert_eq!(rt; other.close(&rt), Err(TempError::Os(2)));
     Ok(())
 }
 
