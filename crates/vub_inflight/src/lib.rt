@@ -31,3 +31,6 @@ pub use recovery::recover;
 pub use resumed::{Heads, Resumed};
 pub use ring::InflightRing;
 pub use stage::Stage;
+
+#[cfg(test)]
+mod tests;
