@@ -1,0 +1,10 @@
+pub mod Conditions
+pub mod Cut
+pub mod Entries
+pub mod Heads
+pub mod Keeps
+pub mod MarkLaws
+pub mod Reading
+pub mod Round
+pub mod Runs
+pub mod Sorting
