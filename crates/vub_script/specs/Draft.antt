@@ -41,17 +41,7 @@ fields_of d = do
   device ← device_of d
   listed ← or_default [] (list_of u32_of) (get (codes "schedule") d)
   rounds ← or_default 0 number_of (get (codes "rounds") d)
-  Some
-  (record {
-    objects = objects;
-    regions = regions;
-    rings = rings;
-    guest = guest;
-    device = device;
-    service = Echo;
-    listed = listed;
-    rounds = rounds;
-  })
+  Some (record { objects = objects; regions = regions; rings = rings; guest = guest; device = device; service = Echo; listed = listed; rounds = rounds })
 
 -- no key but the script's, each part in its form, and no ring that the machine does not have
 unfoldable pub draft_of_tree : Data → Option Draft

@@ -39,18 +39,7 @@ ring_fields d = do
   call ← given (or_null u32_of) (get (codes "call") d)
   ready ← given bool_of (get (codes "ready") d)
   enabled ← given bool_of (get (codes "enabled") d)
-  Some
-  (record {
-    queue = queue;
-    size = size;
-    info = info;
-    base = base;
-    next_used = next_used;
-    kick = kick;
-    call = call;
-    ready = ready;
-    enabled = enabled;
-  })
+  Some (record { queue = queue; size = size; info = info; base = base; next_used = next_used; kick = kick; call = call; ready = ready; enabled = enabled })
 
 unfoldable pub ring_of : Data → Option GivenRing
 ring_of d = if has_ring_form d then ring_fields d else None
