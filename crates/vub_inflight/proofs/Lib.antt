@@ -1,4 +1,3 @@
-pub mod Conditions
 pub mod Cut
 pub mod Entries
 pub mod Heads
