@@ -1,8 +1,9 @@
 -- The calls of the device in a run, and what a device that tells its value makes of them.
-use Rattle.std.specs.Prelude.{◌≡◌, ℕ, List, [], ◌∷◌, ◌++◌}
+use Rattle.std.specs.Prelude.{◌≡◌, ℕ, Bool, true, false, if◌then◌else◌, List, [], ◌∷◌, ◌++◌, length}
 use Rattle.vub_proto.specs.declared.device_op.DeviceOp.{DeviceOp}
 use Rattle.vub_proto.specs.declared.device_op.DeviceOp.TheVariants as device
 use Rattle.vub_proto.specs.declared.device_said.DeviceSaid.{DeviceSaid}
+use Rattle.vub_proto.specs.declared.device_said.DeviceSaid.TheVariants as outcome
 use Rattle.vub_model.specs.declared.label.Label.{Label}
 use Rattle.vub_model.specs.declared.label.Label.TheVariants as label
 use Rattle.vub_model.specs.declared.party.Party.{Party}
@@ -11,6 +12,7 @@ use Rattle.vub_model.specs.declared.phase.Phase.{Phase}
 use Rattle.vub_model.specs.declared.phase.Phase.TheVariants.{Heard}
 use Rattle.vub_model.specs.declared.play.Play.{Play}
 use Rattle.vub_model.specs.declared.play.Play.TheVariants as play
+use Rattle.vub_model.specs.declared.records.DeviceCall.{DeviceCall}
 use Rattle.vub_model.specs.declared.small.Small.TheVariants.{Device as Asks}
 use Rattle.vub_model.specs.Service.{Meaning}
 use Rattle.vub_model.specs.World.{World, phase_at}
@@ -33,6 +35,36 @@ label_of play.Put = label.Put
 pub record Call : Type 0 where
   pub op : DeviceOp
   pub outcome : DeviceSaid
+
+-- the first number of a call, where it has one
+abbrev pub first_number : DeviceOp → ℕ
+first_number (device.AckedFeatures bits) = bits
+first_number (device.SetEventIdx enabled) = if enabled then 1 else 0
+first_number (device.GetConfig offset size) = offset
+first_number (device.SetConfig offset bytes) = offset
+first_number (device.SetBackendReqFd backend) = backend.object
+first_number (device.StopVring queue) = queue
+first_number (device.HandleEvent token worker) = token
+first_number (device.SetGpuSocket object) = object
+first_number (device.SetDeviceStateFd direction phase object) = direction
+first_number op = 0
+
+-- and its second
+abbrev pub second_number : DeviceOp → ℕ
+second_number (device.GetConfig offset size) = size
+second_number (device.SetConfig offset bytes) = length bytes
+second_number (device.HandleEvent token worker) = worker
+second_number (device.SetDeviceStateFd direction phase object) = phase
+second_number op = 0
+
+abbrev pub is_refused : DeviceSaid → Bool
+is_refused (outcome.Refused n) = true
+is_refused said = false
+
+-- the record of a call
+abbrev pub device_call : Call → DeviceCall
+device_call c =
+    record { op = c.op; a = first_number c.op; b = second_number c.op; refused = is_refused c.outcome }
 
 -- the call that a worker's step in this phase makes, if it is a Hear
 abbrev pub heard_in : ℕ → Phase → Play → List Call

@@ -179,10 +179,6 @@ opening_held constants setup service =
 abbrev pub mapping_of : GivenRegion → Mapping
 mapping_of r = record { user = r.user; len = r.len; start = r.start }
 
--- what control is asked, one request after the other: a set-up names no requests yet
-abbrev pub requests_of : Setup → List Request
-requests_of setup = []
-
 -- no request was begun, and the session has the mappings of the given regions
 abbrev pub new_control : Setup → Control
 new_control setup =
@@ -190,7 +186,7 @@ new_control setup =
     record {
       session = s;
       plan = record { steps = []; reply = says answer.Ok; session = s };
-      requests = requests_of setup;
+      requests = setup.requests;
       answers = [];
     }
 

@@ -8,6 +8,8 @@ use Rattle.std.specs.Int.{is_power_of_two}
 use Rattle.vub_mem.specs.declared.content.Content.{Content}
 use Rattle.vub_mem.specs.declared.region.Region.{Region}
 use Rattle.vub_mem.specs.Table.{table_fault}
+use Rattle.vub_proto.specs.declared.request.Request.{Request}
+use Rattle.vub_proto.specs.declared.request.Request.TheVariants as request
 use Rattle.vub_model.specs.declared.run.SetupFault.{SetupFault}
 use Rattle.vub_model.specs.declared.run.SetupFault.TheVariants as setup_fault
 use Rattle.vub_model.specs.declared.setup.Object.{Object}
@@ -132,6 +134,31 @@ ring_fault constants objects earlier (ring ∷ rings) =
     then ring_fault constants objects (earlier ++ ring ∷ []) rings
     else Some (setup_fault.Ring (length earlier))
 
+-- Whether the objects and the worker that a request names are there, and of the right kind. A set-up has no object that
+-- is a log.
+unfoldable pub is_answerable : Constants → List Object → Request → Bool
+is_answerable constants objects (request.SetMemTable parts contents flag) =
+    list_all (λ content. is_some (content_len objects content)) contents
+is_answerable constants objects (request.AddMemRegion part content flag) = is_some (content_len objects content)
+is_answerable constants objects (request.SetLogBase size offset object) = false
+is_answerable constants objects (request.SetVringKick queue event) = is_event_or_none objects event
+is_answerable constants objects (request.SetVringCall queue event) = is_event_or_none objects event
+is_answerable constants objects (request.SetVringErr queue event) = is_event_or_none objects event
+is_answerable constants objects (request.SetBackendReqFd object) = nat_lt object (length objects)
+is_answerable constants objects (request.SetGpuSocket object) = nat_lt object (length objects)
+is_answerable constants objects (request.SetDeviceStateFd direction phase object) = nat_lt object (length objects)
+is_answerable constants objects (request.SetInflightFd object) = nat_lt object (length objects)
+is_answerable constants objects (request.RegisterListener worker event set token) =
+    is_event objects event && nat_lt worker (length constants.masks)
+is_answerable constants objects (request.UnregisterListener worker event set token) =
+    is_event objects event && nat_lt worker (length constants.masks)
+is_answerable constants objects r = true
+
+-- the first request that names what is not there
+unfoldable pub request_fault : Constants → List Object → List Request → Option SetupFault
+request_fault constants objects requests =
+    option_map (λ i. setup_fault.Request i) (position (λ r. not (is_answerable constants objects r)) requests)
+
 abbrev pub fits_in : Option ℕ → ℕ → Bool
 fits_in None n = false
 fits_in (Some len) n = nat_le n len
@@ -158,7 +185,8 @@ fault_of constants setup =
     (or_else (region_fault setup.objects setup.regions)
     (or_else (given_table_fault setup.objects setup.regions)
     (or_else (ring_fault constants setup.objects [] setup.rings)
-    (guest_fault setup.objects setup.guest))))
+    (or_else (request_fault constants setup.objects setup.requests)
+    (guest_fault setup.objects setup.guest)))))
 
 abbrev pub IsValid : Constants → Setup → Type 0
 IsValid constants setup = fault_of constants setup ≡ None

@@ -1,4 +1,5 @@
 use crate::small::Small;
+use sqlite_items::Boxed;
 use vub_proto::DeviceSaid;
 
 /// What a party did in its turn, as `Label` says it, with what the device answered where the step calls it.
@@ -6,7 +7,7 @@ use vub_proto::DeviceSaid;
 pub enum Play {
     Pass,
     Guest,
-    Control(Small, DeviceSaid),
+    Control(Boxed<Small>, DeviceSaid),
     Poll { object: u32 },
     Event,
     Sweep,

@@ -1,4 +1,5 @@
 use vub_base::{Bytes, Listed};
+use vub_proto::Request;
 
 /// An object of a set-up. Object `i` of the list has number `i`.
 #[derive(Debug, Drop)]
@@ -72,6 +73,8 @@ pub struct Setup {
     pub objects: Listed<Object>,
     pub regions: Listed<GivenRegion>,
     pub rings: Listed<GivenRing>,
+    /// What the front end asks of control, one request after the other.
+    pub requests: Listed<Request>,
     /// What the guest does, one action a turn.
     pub guest: Listed<Guest>,
 }
