@@ -1,6 +1,6 @@
 -- Control follows the plans of its requests: its steps are theirs in order, each Answer gives what its plan says, and one
 -- that tells a base tells the base at which the queue goes on elsewhere.
-use Rattle.std.proofs.Common.{◌≡◌, ℕ, zero, suc, ◌+◌, ◌%◌, ◌^◌, List, [], ◌∷◌, ◌++◌, length, refl, sym, ap, ◌∙◌, subst, arith}
+use Rattle.std.proofs.Common.{◌≡◌, ℕ, Bool, zero, suc, ◌+◌, ◌%◌, ◌^◌, List, [], ◌∷◌, ◌++◌, length, refl, sym, ap, ◌∙◌, subst, arith}
 use Rattle.std.proofs.lemmas.List.{length-append}
 use Rattle.vub_mem.specs.declared.region.Region.{Region}
 use Rattle.vub_proto.specs.declared.answer.Answer.TheVariants as answer
@@ -13,12 +13,13 @@ use Rattle.vub_model.specs.declared.play.Play.TheVariants as play
 use Rattle.vub_model.specs.declared.setup.Guest.{Guest}
 use Rattle.vub_model.specs.declared.small.Small.{Small}
 use Rattle.vub_model.specs.declared.small.Small.TheVariants.{Answer as Answering}
-use Rattle.vub_model.specs.Answers.{AnswersItsPlan, taken_since, IsBaseAnswer, AnswersItsBase, FollowsPlans}
+use Rattle.vub_model.specs.Answers.{AnswersItsPlan, taken_since, IsBaseAnswer, AnswersItsBase, Begins, BeginsNext, FollowsPlans}
 use Rattle.vub_model.specs.Bases.{count_up}
-use Rattle.vub_model.specs.Control.{Control, MayControl, small_after, answers_by, played, begun_from}
+use Rattle.vub_model.specs.Control.{Control, MayControl, small_after, answers_by, played, begun_from, tail_of}
 use Rattle.vub_model.specs.Frame.{Frame, frame_of}
 use Rattle.vub_model.specs.Plans.{next_of}
 use Rattle.vub_model.specs.RunOf.{Turn, IsRun}
+use Rattle.vub_model.specs.Schedule.{Invariant}
 use Rattle.vub_model.specs.Service.{Meaning}
 use Rattle.vub_model.specs.Shared.{ring_at}
 use Rattle.vub_model.specs.Wiring.{Wiring}
@@ -26,6 +27,7 @@ use Rattle.vub_model.specs.World.{World, May, after, after_guest, after_control}
 use Rattle.vub_model.proofs.Answered.{base-stands}
 use Rattle.vub_model.proofs.Counted.{answered-base}
 use Rattle.vub_model.proofs.Ordering.{in-order}
+use Rattle.vub_model.proofs.SmallRings.{first-fits}
 use Rattle.vub_model.proofs.Sound.{IsSound, each-sound}
 use Rattle.vub_model.proofs.Turns.{turn-cases}
 
@@ -65,6 +67,25 @@ module _ {V : Type 0} (m : Meaning V) (w : World V) where
       (λ same. subst (λ (x : World V). AnswersItsPlan w p play.Pass x) (sym same) (pass-answers p))
       (λ l may is. subst (λ (x : World V). AnswersItsPlan w p l x) (sym is) (step-answers p l may))
 
+-- Requests
+
+begins-from : (g : Wiring) (f : Frame) (rs : List Region) (c : Control) (steps : List Small) → steps ≡ [] → c.plan.steps ≡ [] → (requests : List Request) → Begins g f rs (begun_from g f rs c steps requests) requests
+begins-from g f rs c [] is none [] = none
+begins-from g f rs c [] is none (r ∷ more) = (refl, refl)
+begins-from g f rs c (s ∷ steps) is none requests = absurd cc
+
+-- an Answer is the last step of its plan
+pub ends-plan : {V : Type 0} (w : World V) (calm : ℕ → Bool) → Invariant w calm → (said : DeviceSaid) → MayControl w.shared w.control.plan.steps Answering said → tail_of w.control.plan.steps ≡ []
+ends-plan w calm i said may = (first-fits w calm i Answering said may).0
+
+begins-turn : {V : Type 0} (m : Meaning V) (n : ℕ) (w : World V) (p : Party) (l : Play) (z : World V) → IsSound n w → Turn m w p l z → BeginsNext w p l z
+begins-turn {V} m n w party.Control (play.Control Answering said) z s turn =
+    let c = played w.wiring w.shared w.control Answering said in
+    let last = ends-plan w s.calm s.invariant said turn.0 in
+    subst (λ (x : World V). BeginsNext w party.Control (play.Control Answering said) x) (sym turn.1)
+    (begins-from w.wiring (frame_of w.shared) w.shared.guest.regions c c.plan.steps last last w.control.requests)
+begins-turn m n w p l z s turn = tt
+
 -- Bases
 
 length-count : (base n : ℕ) → length (count_up base n) ≡ n
@@ -92,6 +113,7 @@ bases-turn m n w p l z s turn = tt
 pub follows-plans : {V : Type 0} (m : Meaning V) (turns : List ℕ) (plays : List Play) (w z : World V) → IsSound (length turns) w → IsRun m turns plays w z → FollowsPlans m turns plays w
 follows-plans m turns plays w z sound run = record {
   steps = in-order m turns plays w z run;
+  begins = each-sound m BeginsNext (λ n w p l z s turn. begins-turn m (suc n) w p l z s turn) turns plays w z sound run;
   answers = each-sound m AnswersItsPlan (λ n w p l z s turn. answers-turn m w p z l turn) turns plays w z sound run;
   bases = each-sound m AnswersItsBase (λ n w p l z s turn. bases-turn m (suc n) w p l z s turn) turns plays w z sound run;
 }
