@@ -12,3 +12,13 @@ mod hostile;
 mod playing;
 #[cfg(test)]
 mod runs;
+#[cfg(test)]
+mod answers;
+#[cfg(test)]
+mod kicks;
+#[cfg(test)]
+mod rings;
+#[cfg(test)]
+mod rows;
+#[cfg(test)]
+mod workers;
