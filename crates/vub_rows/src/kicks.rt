@@ -329,7 +329,8 @@ fn a_start() -> Family {
 }
 
 /// What the guest stores: two descriptors, the request `hello` and one available entry.
-const STORES: &str = r#"["store",0,0,"0030100000000000050000000100010000401000000000001000000002000000"],
+const STORES: &str =
+    r#"["store",0,0,"0030100000000000050000000100010000401000000000001000000002000000"],
 ["store",0,12288,"68656c6c6f"],["store",0,4096,"000001000000"]"#;
 
 const TAKEN_AND_USED: &str = "take 0 0 0 head 0 request 68656c6c6f room 16

@@ -30,7 +30,17 @@ device_of d = do
   config ← or_default [] bytes_of (get (codes "config") d)
   exits ← or_default [] (list_of (or_null u32_of)) (get (codes "exits") d)
   refuse ← or_default [] (list_of number_of) (get (codes "refuse") d)
-  Some (record { queues = queues; max_size = max_size; masks = masks; features = features; protocol = protocol; config = config; pages = false; exits = exits; refuse = refuse })
+  Some (record {
+    queues = queues;
+    max_size = max_size;
+    masks = masks;
+    features = features;
+    protocol = protocol;
+    config = config;
+    pages = false;
+    exits = exits;
+    refuse = refuse;
+  })
 
 unfoldable pub fields_of : Data → Option Draft
 fields_of d = do
@@ -42,7 +52,17 @@ fields_of d = do
   device ← device_of d
   listed ← or_default [] (list_of u32_of) (get (codes "schedule") d)
   rounds ← or_default 0 number_of (get (codes "rounds") d)
-  Some (record { objects = objects; regions = regions; rings = rings; requests = requests; guest = guest; device = device; service = Echo; listed = listed; rounds = rounds })
+  Some (record {
+    objects = objects;
+    regions = regions;
+    rings = rings;
+    requests = requests;
+    guest = guest;
+    device = device;
+    service = Echo;
+    listed = listed;
+    rounds = rounds;
+  })
 
 -- no key but the script's, and each part in its form
 unfoldable pub draft_of_tree : Data → Option Draft

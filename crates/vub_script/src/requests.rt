@@ -6,7 +6,8 @@ ghost use Rattle.vub_script.specs.Reading.{Gives};
 ghost use Rattle.vub_script.specs.Requests.{addresses_form, request_called, request_form, request_of};
 
 use crate::arguments::{
-    four_arguments, no_argument, one_argument, three_arguments, two_arguments, two_or_three_arguments,
+    four_arguments, no_argument, one_argument, three_arguments, two_arguments,
+    two_or_three_arguments,
 };
 use crate::calls::{Call, call_of};
 use crate::refusal::Refusal;
@@ -83,12 +84,24 @@ fn request_for(alloc: Global, call: Call, list: &[Value]) -> Result<Request, Ref
             Ok(Request::SetProtocolFeatures(bits))
         }
         Call::SetMemTable => {
-            let (parts, contents, postcopy) = two_or_three_arguments::<Listed<Part>, Listed<u32>, bool>(alloc, list)?;
-            Ok(Request::SetMemTable { parts, contents, postcopy })
+            let (parts, contents, postcopy) = two_or_three_arguments::<
+                Listed<Part>,
+                Listed<u32>,
+                bool,
+            >(alloc, list)?;
+            Ok(Request::SetMemTable {
+                parts,
+                contents,
+                postcopy,
+            })
         }
         Call::AddMemRegion => {
             let (part, content, postcopy) = two_or_three_arguments::<Part, u32, bool>(alloc, list)?;
-            Ok(Request::AddMemRegion { part, content, postcopy })
+            Ok(Request::AddMemRegion {
+                part,
+                content,
+                postcopy,
+            })
         }
         Call::RemoveMemRegion => {
             let (start, len) = two_arguments::<u64, u64>(alloc, list)?;
@@ -96,16 +109,26 @@ fn request_for(alloc: Global, call: Call, list: &[Value]) -> Result<Request, Ref
         }
         Call::SetLogBase => {
             let (size, offset, object) = three_arguments::<u64, u64, u32>(alloc, list)?;
-            Ok(Request::SetLogBase { size, offset, object })
+            Ok(Request::SetLogBase {
+                size,
+                offset,
+                object,
+            })
         }
         Call::SetVringNum => {
             let (queue, size) = two_arguments::<u32, u32>(alloc, list)?;
-            Ok(Request::SetVringNum { queue, size: size as u64 })
+            Ok(Request::SetVringNum {
+                queue,
+                size: size as u64,
+            })
         }
         Call::SetVringAddr => addresses_at(alloc, list),
         Call::SetVringBase => {
             let (queue, base) = two_arguments::<u32, u32>(alloc, list)?;
-            Ok(Request::SetVringBase { queue, base: base as u64 })
+            Ok(Request::SetVringBase {
+                queue,
+                base: base as u64,
+            })
         }
         Call::GetVringBase => {
             let queue: u32 = one_argument(alloc, list)?;
@@ -129,11 +152,19 @@ fn request_for(alloc: Global, call: Call, list: &[Value]) -> Result<Request, Ref
         }
         Call::GetConfig => {
             let (offset, size, flags) = three_arguments::<u32, u32, u32>(alloc, list)?;
-            Ok(Request::GetConfig { offset, size, flags })
+            Ok(Request::GetConfig {
+                offset,
+                size,
+                flags,
+            })
         }
         Call::SetConfig => {
             let (offset, bytes, flags) = three_arguments::<u32, Bytes, u32>(alloc, list)?;
-            Ok(Request::SetConfig { offset, bytes, flags })
+            Ok(Request::SetConfig {
+                offset,
+                bytes,
+                flags,
+            })
         }
         Call::SetBackendReqFd => {
             let object: u32 = one_argument(alloc, list)?;
@@ -157,7 +188,11 @@ fn request_for(alloc: Global, call: Call, list: &[Value]) -> Result<Request, Ref
         }
         Call::SetDeviceStateFd => {
             let (direction, phase, object) = three_arguments::<u32, u32, u32>(alloc, list)?;
-            Ok(Request::SetDeviceStateFd { direction, phase, object })
+            Ok(Request::SetDeviceStateFd {
+                direction,
+                phase,
+                object,
+            })
         }
         Call::GetInflightFd => {
             no_argument(list)?;
@@ -168,8 +203,7 @@ fn request_for(alloc: Global, call: Call, list: &[Value]) -> Result<Request, Ref
             Ok(Request::SetInflightFd { object })
         }
         Call::RegisterListener => {
-            let (worker, event, set, token) =
-                four_arguments::<u32, u32, u32, u64>(alloc, list)?;
+            let (worker, event, set, token) = four_arguments::<u32, u32, u32, u64>(alloc, list)?;
             Ok(Request::RegisterListener {
                 worker,
                 event,
@@ -178,8 +212,7 @@ fn request_for(alloc: Global, call: Call, list: &[Value]) -> Result<Request, Ref
             })
         }
         Call::UnregisterListener => {
-            let (worker, event, set, token) =
-                four_arguments::<u32, u32, u32, u64>(alloc, list)?;
+            let (worker, event, set, token) = four_arguments::<u32, u32, u32, u64>(alloc, list)?;
             Ok(Request::UnregisterListener {
                 worker,
                 event,

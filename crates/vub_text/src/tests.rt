@@ -3,9 +3,7 @@ use std::alloc::Global;
 use std::test::Fail;
 use vub_base::{Bytes, Listed, OutOfMemory};
 use vub_mem::{LogError, MemError};
-use vub_model::{
-    Count, DeviceCall, Label, Run, Span, Stop, StopCause, Take, VringEpollError, Why,
-};
+use vub_model::{Count, DeviceCall, Label, Run, Span, Stop, StopCause, Take, VringEpollError, Why};
 use vub_proto::{Answer, Cause, Denied, DeviceOp, ListenerError, Used, VhostUserError};
 use vub_queue::Damage;
 
