@@ -1,6 +1,6 @@
-//! Kicks that come at every place between the small steps of a stop and a start, of a disable and an enable, and of a kick
-//! that is replaced: each entry is published with a signal of the event that is the queue's kick then, or is to be, and is
-//! used.
+//! Kicks that come at every place between the small steps of a stop and a start, of a disable and an enable, and of a
+//! kick that is replaced: each entry is published with a signal of the event that is the queue's kick then, or is to be,
+//! and is used.
 
 use crate::playing::expect;
 use crate::rows::{BASE, played};
@@ -26,15 +26,16 @@ struct Family {
     name: &'static str,
     /// Members that stand behind the base script's.
     changes: &'static str,
-    /// How many small steps control plays first of all. Then the worker has four turns, in which it finds the ring empty.
+    /// How many small steps control plays first of all. Then the worker has four turns, in which it finds the ring
+    /// empty.
     before: usize,
     places: &'static [Place],
     /// The lines of the answers and of the device.
     answers: &'static str,
 }
 
-/// The stop has 8 small steps (ready off, out of pending set and list, the device, no kick, no call, release, answer), and
-/// the start 7 (claim, the kick, ready, into list and pending set, the bell, answer).
+/// The stop has 8 small steps (ready off, out of pending set and list, the device, no kick, no call, release, answer),
+/// and the start 7 (claim, the kick, ready, into list and pending set, the bell, answer).
 const STOP: [Place; 16] = [
     Place {
         kick: 1,
@@ -271,7 +272,8 @@ fn a_kick_that_is_replaced() -> Family {
     }
 }
 
-/// A ring without a kick gets one, in 7 small steps (claim, the kick, ready, into list and pending set, the bell, answer).
+/// A ring without a kick gets one, in 7 small steps (claim, the kick, ready, into list and pending set, the bell,
+/// answer).
 const START: [Place; 8] = [
     Place {
         kick: 1,
