@@ -10,7 +10,6 @@ use Rattle.vub_proto.specs.declared.answer.Answer.{Answer}
 use Rattle.vub_proto.specs.declared.answer.Answer.TheVariants as answer
 use Rattle.vub_proto.specs.declared.answer.Cause.{Cause}
 use Rattle.vub_proto.specs.declared.answer.Cause.TheVariants as cause
-use Rattle.vub_proto.specs.declared.answer.Denied.{Denied}
 use Rattle.vub_proto.specs.declared.answer.ListenerError.{ListenerError}
 use Rattle.vub_proto.specs.declared.answer.ListenerError.TheVariants as listener
 use Rattle.vub_proto.specs.declared.answer.VhostUserError.{VhostUserError}
