@@ -56,6 +56,39 @@ fn inputs() -> [Case; 8] {
     ]
 }
 
+/// Scripts whose set-up can't be run.
+fn set_ups() -> [Case; 7] {
+    [
+        plain("65 queues", r#"{"queues":65}"#, 3),
+        plain("an exit object that is not there", r#"{"exits":[0]}"#, 3),
+        plain(
+            "a kick that is not there",
+            r#"{"requests":[["set_vring_kick",9,0]]}"#,
+            3,
+        ),
+        plain(
+            "a content for a kick",
+            r#"{"objects":[{"bytes":1}],"requests":[["set_vring_kick",0,0]]}"#,
+            3,
+        ),
+        plain(
+            "a surplus content that is not there, and postcopy",
+            r#"{"requests":[["set_mem_table",[],[0],true]]}"#,
+            3,
+        ),
+        plain(
+            "a worker that is not there",
+            r#"{"objects":[{"event":0}],"requests":[["register_listener",1,0,0,0]]}"#,
+            3,
+        ),
+        plain(
+            "a log",
+            r#"{"objects":[{"bytes":1}],"requests":[["set_log_base",1,0,0]]}"#,
+            3,
+        ),
+    ]
+}
+
 fn faults() -> [Case; 5] {
     [
         Case {
@@ -118,7 +151,8 @@ fn expect_statuses(rt: &impl Abort, alloc: Global, cases: &[Case]) -> Result<(),
 
 #[test]
 fn each_input_has_its_status(rt: HostRuntime) -> Result<(), Fail> {
-    expect_statuses(&rt, rt.alloc(), &inputs())
+    expect_statuses(&rt, rt.alloc(), &inputs())?;
+    expect_statuses(&rt, rt.alloc(), &set_ups())
 }
 
 #[test]

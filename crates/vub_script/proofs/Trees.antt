@@ -9,6 +9,7 @@ use Rattle.serde_json.specs.declared.value.Value.{Value, Array, Object}
 use Rattle.serde_json.proofs.Views.{Entry, view-Array, view-Object}
 use Rattle.vub_script.specs.Lists.{items_list, each, list_of}
 use Rattle.vub_script.specs.Objects.{lone_member}
+use Rattle.vub_script.specs.Requests.{request_form, request_of}
 use Rattle.vub_script.specs.Keys.{keys_are, object_keys_are}
 
 pub items_listed : (vs : List Value) → items_list (items_view vs) ≡ map view vs
@@ -17,6 +18,10 @@ items_listed (v ∷ vs) = ap (λ ds. view v ∷ ds) (items_listed vs)
 
 pub list_of_array : {A : Type 0} (f : Data → Option A) (v : Vec Value Global) → list_of f (view (Array v)) ≡ each f (map view v.items)
 list_of_array f v = ap (list_of f) (view-Array v) ∙ ap (each f) (items_listed v.items)
+
+pub request_of_array : (v : Vec Value Global) → request_of (view (Array v)) ≡ request_form (map view v.items)
+unfolding request_of
+request_of_array v = ap request_of (view-Array v) ∙ ap request_form (items_listed v.items)
 
 pub lone_none : (es : List Entry) → length es ≢ 1 → None ≡ lone_member (members_view es)
 lone_none [] h = refl

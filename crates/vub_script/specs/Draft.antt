@@ -7,29 +7,39 @@ use Rattle.vub_script.specs.declared.service_form.ServiceForm.TheVariants.{Echo}
 use Rattle.vub_script.specs.declared.draft.Draft.{Draft}
 use Rattle.vub_script.specs.Reading.{◌>>=◌, or_default}
 use Rattle.vub_script.specs.Numbers.{number_of, u32_of}
+use Rattle.vub_script.specs.Hexadecimal.{bytes_of}
+use Rattle.vub_script.specs.Leaves.{or_null}
 use Rattle.vub_script.specs.Lists.{list_of}
 use Rattle.vub_script.specs.Objects.{object_of}
 use Rattle.vub_script.specs.Regions.{region_of}
-use Rattle.vub_script.specs.Rings.{ring_of, are_served_rings}
+use Rattle.vub_script.specs.Rings.{ring_of}
+use Rattle.vub_script.specs.Requests.{request_of}
 use Rattle.vub_script.specs.Guest.{guest_of}
 use Rattle.vub_script.specs.Keys.{has_form}
 
--- One queue and one worker, whose mask has the queues 0 to 31. The features are VIRTIO_F_VERSION_1 (bit 32),
--- VHOST_USER_F_PROTOCOL_FEATURES (30), VIRTIO_RING_F_EVENT_IDX (29) and VHOST_F_LOG_ALL (26); the protocol features are
--- VHOST_USER_PROTOCOL_F_LOG_SHMFD (bit 1), _REPLY_ACK (3) and _CONFIG (9).
+-- What is left out is one queue and one worker, whose mask has the queues 0 to 31. The features are VIRTIO_F_VERSION_1
+-- (bit 32), VHOST_USER_F_PROTOCOL_FEATURES (30), VIRTIO_RING_F_EVENT_IDX (29) and VHOST_F_LOG_ALL (26); the protocol
+-- features are VHOST_USER_PROTOCOL_F_LOG_SHMFD (bit 1), _REPLY_ACK (3) and _CONFIG (9).
 unfoldable pub device_of : Data → Option DeviceForm
 device_of d = do
+  queues ← or_default 1 number_of (get (codes "queues") d)
   max_size ← or_default 256 number_of (get (codes "max_size") d)
+  masks ← or_default (4294967295 ∷ []) (list_of number_of) (get (codes "masks") d)
+  features ← or_default 5972688896 number_of (get (codes "features") d)
+  protocol ← or_default 522 number_of (get (codes "protocol") d)
+  config ← or_default [] bytes_of (get (codes "config") d)
+  exits ← or_default [] (list_of (or_null u32_of)) (get (codes "exits") d)
+  refuse ← or_default [] (list_of number_of) (get (codes "refuse") d)
   Some (record {
-    queues = 1;
+    queues = queues;
     max_size = max_size;
-    masks = 4294967295 ∷ [];
-    features = 5972688896;
-    protocol = 522;
-    config = [];
+    masks = masks;
+    features = features;
+    protocol = protocol;
+    config = config;
     pages = false;
-    exits = [];
-    refuse = [];
+    exits = exits;
+    refuse = refuse;
   })
 
 unfoldable pub fields_of : Data → Option Draft
@@ -37,13 +47,23 @@ fields_of d = do
   objects ← or_default [] (list_of object_of) (get (codes "objects") d)
   regions ← or_default [] (list_of region_of) (get (codes "regions") d)
   rings ← or_default [] (list_of ring_of) (get (codes "rings") d)
+  requests ← or_default [] (list_of request_of) (get (codes "requests") d)
   guest ← or_default [] (list_of guest_of) (get (codes "guest") d)
   device ← device_of d
   listed ← or_default [] (list_of u32_of) (get (codes "schedule") d)
   rounds ← or_default 0 number_of (get (codes "rounds") d)
-  Some (record { objects = objects; regions = regions; rings = rings; guest = guest; device = device; service = Echo; listed = listed; rounds = rounds })
+  Some (record {
+    objects = objects;
+    regions = regions;
+    rings = rings;
+    requests = requests;
+    guest = guest;
+    device = device;
+    service = Echo;
+    listed = listed;
+    rounds = rounds;
+  })
 
--- no key but the script's, each part in its form, and no ring that the machine does not have
+-- no key but the script's, and each part in its form
 unfoldable pub draft_of_tree : Data → Option Draft
-draft_of_tree d =
-    if has_form d then (fields_of d >>= λ draft. if are_served_rings draft.rings then Some draft else None) else None
+draft_of_tree d = if has_form d then fields_of d else None

@@ -21,11 +21,20 @@ object_keys_are p (object ms) = keys_are p ms
 
 abbrev pub is_setup_key : List ℕ → Bool
 is_setup_key k =
-    bytes_eq k (codes "objects") || bytes_eq k (codes "regions") || bytes_eq k (codes "rings") || bytes_eq k
-    (codes "guest")
+    bytes_eq k (codes "objects") || bytes_eq k (codes "regions") || bytes_eq k (codes "rings") ||
+    bytes_eq k (codes "requests") || bytes_eq k (codes "guest")
+
+abbrev pub is_device_number_key : List ℕ → Bool
+is_device_number_key k =
+    bytes_eq k (codes "queues") || bytes_eq k (codes "max_size") || bytes_eq k (codes "features") ||
+    bytes_eq k (codes "protocol")
+
+abbrev pub is_device_list_key : List ℕ → Bool
+is_device_list_key k =
+    bytes_eq k (codes "masks") || bytes_eq k (codes "config") || bytes_eq k (codes "exits") || bytes_eq k (codes "refuse")
 
 abbrev pub is_device_key : List ℕ → Bool
-is_device_key k = bytes_eq k (codes "max_size")
+is_device_key k = is_device_number_key k || is_device_list_key k
 
 abbrev pub is_turn_key : List ℕ → Bool
 is_turn_key k = bytes_eq k (codes "schedule") || bytes_eq k (codes "rounds")

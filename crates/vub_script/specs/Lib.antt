@@ -7,6 +7,10 @@ pub mod Objects
 pub mod Regions
 pub mod Rings
 pub mod Guest
+pub mod Arguments
+pub mod Calls
+pub mod Parts
+pub mod Requests
 pub mod Keys
 pub mod Draft
 pub mod Script

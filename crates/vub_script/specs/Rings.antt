@@ -1,5 +1,5 @@
 -- A ring as it stands when the run begins: an object with all nine keys and no others.
-use Rattle.std.specs.Prelude.{◌==◌, Bool, true, false, if◌then◌else◌, List, [], ◌∷◌, codes, Option, Some, None}
+use Rattle.std.specs.Prelude.{if◌then◌else◌, List, [], ◌∷◌, codes, Option, Some, None}
 use Rattle.serde_json.specs.Data.{Data}
 use Rattle.serde_json.specs.Find.{as_array, get}
 use Rattle.vub_model.specs.declared.setup.Info.{Info}
@@ -43,9 +43,3 @@ ring_fields d = do
 
 unfoldable pub ring_of : Data → Option GivenRing
 ring_of d = if has_ring_form d then ring_fields d else None
-
--- The rings that the machine has: at most one, of queue 0.
-abbrev pub are_served_rings : List GivenRing → Bool
-are_served_rings [] = true
-are_served_rings (r ∷ []) = r.queue == 0
-are_served_rings (r ∷ q ∷ more) = false

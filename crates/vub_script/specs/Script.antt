@@ -55,7 +55,13 @@ parties workers = range_with_len 0 (workers + 2)
 
 unfoldable pub script_from : Draft → Script
 script_from d = record {
-  setup = record { objects = map object_from d.objects; regions = d.regions; rings = d.rings; guest = d.guest };
+  setup = record {
+    objects = map object_from d.objects;
+    regions = d.regions;
+    rings = d.rings;
+    requests = d.requests;
+    guest = d.guest;
+  };
   device = d.device;
   service = d.service;
   schedule = d.listed ++ repeat d.rounds (parties (length d.device.masks));

@@ -2,6 +2,7 @@ use crate::device_form::DeviceForm;
 use crate::service_form::ServiceForm;
 use vub_base::{Bytes, Listed};
 use vub_model::{GivenRegion, GivenRing, Guest};
+use vub_proto::Request;
 
 /// An object of the set-up as a script says it.
 #[derive(Debug, Drop)]
@@ -21,6 +22,7 @@ pub struct Draft {
     pub objects: Listed<ObjectDraft>,
     pub regions: Listed<GivenRegion>,
     pub rings: Listed<GivenRing>,
+    pub requests: Listed<Request>,
     pub guest: Listed<Guest>,
     pub device: DeviceForm,
     pub service: ServiceForm,

@@ -2,20 +2,32 @@ ghost use Rattle.std.specs.Prelude.{◌≡◌, string_bytes};
 ghost use Rattle.std.specs.List.{list_all};
 ghost use Rattle.std.specs.BTreeMap.{keys};
 ghost use Rattle.serde_json.specs.View.{view};
-ghost use Rattle.vub_script.specs.Keys.{is_setup_key, is_device_key, is_turn_key, is_key, has_form, is_ring_place_key, is_ring_state_key, is_ring_key, has_ring_form};
+ghost use Rattle.vub_script.specs.Keys.{is_setup_key, is_device_number_key, is_device_list_key, is_device_key, is_turn_key, is_key, has_form, is_ring_place_key, is_ring_state_key, is_ring_key, has_ring_form};
 
 use serde_json::{Map, Value};
 
 fn is_a_setup_key(key: &str) -> bool
     ensures { result ≡ is_setup_key key.now }
 {
-    key == "objects" || key == "regions" || key == "rings" || key == "guest"
+    key == "objects" || key == "regions" || key == "rings" || key == "requests" || key == "guest"
+}
+
+fn is_a_device_number_key(key: &str) -> bool
+    ensures { result ≡ is_device_number_key key.now }
+{
+    key == "queues" || key == "max_size" || key == "features" || key == "protocol"
+}
+
+fn is_a_device_list_key(key: &str) -> bool
+    ensures { result ≡ is_device_list_key key.now }
+{
+    key == "masks" || key == "config" || key == "exits" || key == "refuse"
 }
 
 fn is_a_device_key(key: &str) -> bool
     ensures { result ≡ is_device_key key.now }
 {
-    key == "max_size"
+    is_a_device_number_key(key) || is_a_device_list_key(key)
 }
 
 fn is_a_turn_key(key: &str) -> bool

@@ -2,6 +2,8 @@
 //! function from texts to drafts, the limits on a draft, and the script that a draft is written out to.
 #![tactic(auto)]
 
+mod arguments;
+mod calls;
 mod device_form;
 mod draft;
 mod guest;
@@ -12,9 +14,11 @@ mod limits;
 mod lists;
 mod numbers;
 mod objects;
+mod parts;
 mod read;
 mod refusal;
 mod regions;
+mod requests;
 mod rings;
 mod script;
 mod service_form;

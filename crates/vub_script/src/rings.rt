@@ -1,7 +1,7 @@
-ghost use Rattle.std.specs.Prelude.{◌≡◌, map};
+ghost use Rattle.std.specs.Prelude.{map};
 ghost use Rattle.serde_json.specs.View.{view};
 ghost use Rattle.vub_script.specs.Reading.{Gives};
-ghost use Rattle.vub_script.specs.Rings.{info_form, info_of, ring_fields, ring_of, are_served_rings};
+ghost use Rattle.vub_script.specs.Rings.{info_form, info_of, ring_fields, ring_of};
 
 use crate::keys::is_in_ring_form;
 use crate::refusal::Refusal;
@@ -72,16 +72,5 @@ impl FromTree for GivenRing {
         } else {
             Err(Refusal::NoScript)
         }
-    }
-}
-
-/// Whether the machine has all these rings: it has the one of queue 0.
-pub fn are_rings_served(rings: &[GivenRing]) -> bool
-    ensures { result ≡ are_served_rings rings.now }
-{
-    match rings {
-        [] => true,
-        [ring] => ring.queue == 0,
-        _ => false,
     }
 }

@@ -6,7 +6,6 @@ use crate::device_form::DeviceForm;
 use crate::draft::Draft;
 use crate::keys::is_in_form;
 use crate::refusal::Refusal;
-use crate::rings::are_rings_served;
 use crate::service_form::ServiceForm;
 use crate::tree::part_or;
 use serde_json::Value;
@@ -21,23 +20,33 @@ const FEATURES: u64 = 0x1_6400_0000;
 /// VHOST_USER_PROTOCOL_F_REPLY_ACK (3) and VHOST_USER_PROTOCOL_F_CONFIG (9).
 const PROTOCOL_FEATURES: u64 = 0x20a;
 
+/// The mask of the one worker that a device has where the script does not say: queues 0 to 31.
+const MASK: u64 = 0xffff_ffff;
+
 #[tactic(auto, unfolding(crate::specs::Draft::device_of))]
 fn device_from(alloc: Global, value: &Value) -> Result<DeviceForm, Refusal>
     ensures { Gives result (device_of (view value.now)) }
 {
+    let mut mask: Listed<u64> = Listed::new(alloc);
+    mask.push(MASK)?;
+    let queues = part_or(alloc, value.get("queues"), 1)?;
     let max_size = part_or(alloc, value.get("max_size"), 256)?;
-    let mut masks: Listed<u64> = Listed::new(alloc);
-    masks.push(0xffff_ffff)?;
+    let masks = part_or(alloc, value.get("masks"), mask)?;
+    let features = part_or(alloc, value.get("features"), FEATURES)?;
+    let protocol = part_or(alloc, value.get("protocol"), PROTOCOL_FEATURES)?;
+    let config = part_or(alloc, value.get("config"), Bytes::new(alloc))?;
+    let exits = part_or(alloc, value.get("exits"), Listed::new(alloc))?;
+    let refuse = part_or(alloc, value.get("refuse"), Listed::new(alloc))?;
     Ok(DeviceForm {
-        queues: 1,
+        queues,
         max_size,
         masks,
-        features: FEATURES,
-        protocol: PROTOCOL_FEATURES,
-        config: Bytes::new(alloc),
+        features,
+        protocol,
+        config,
         pages: false,
-        exits: Listed::new(alloc),
-        refuse: Listed::new(alloc),
+        exits,
+        refuse,
     })
 }
 
@@ -48,6 +57,7 @@ fn fields_from(alloc: Global, value: &Value) -> Result<Draft, Refusal>
     let objects = part_or(alloc, value.get("objects"), Listed::new(alloc))?;
     let regions = part_or(alloc, value.get("regions"), Listed::new(alloc))?;
     let rings = part_or(alloc, value.get("rings"), Listed::new(alloc))?;
+    let requests = part_or(alloc, value.get("requests"), Listed::new(alloc))?;
     let guest = part_or(alloc, value.get("guest"), Listed::new(alloc))?;
     let device = device_from(alloc, value)?;
     let listed = part_or(alloc, value.get("schedule"), Listed::new(alloc))?;
@@ -56,6 +66,7 @@ fn fields_from(alloc: Global, value: &Value) -> Result<Draft, Refusal>
         objects,
         regions,
         rings,
+        requests,
         guest,
         device,
         service: ServiceForm::Echo,
@@ -72,12 +83,9 @@ fn fields_from(alloc: Global, value: &Value) -> Result<Draft, Refusal>
 pub fn draft_from(alloc: Global, value: &Value) -> Result<Draft, Refusal>
     ensures { Gives result (draft_of_tree (view value.now)) }
 {
-    if !is_in_form(value) {
-        return Err(Refusal::NoScript);
+    if is_in_form(value) {
+        fields_from(alloc, value)
+    } else {
+        Err(Refusal::NoScript)
     }
-    let draft = fields_from(alloc, value)?;
-    if !are_rings_served(draft.rings.as_slice()) {
-        return Err(Refusal::NoScript);
-    }
-    Ok(draft)
 }

@@ -1,3 +1,5 @@
 pub mod Words
+pub mod Answers
+pub mod Calls
 pub mod Lines
 pub mod Text

@@ -1,14 +1,18 @@
 -- The lines of a text. Numbers are decimal, and each line ends with a newline byte.
-use Rattle.std.specs.Prelude.{ℕ, Bool, true, false, List, ◌++◌, length, codes, decimal, count_by}
+use Rattle.std.specs.Prelude.{ℕ, ◌+◌, Bool, true, false, List, [], ◌∷◌, ◌++◌, length, codes, decimal, count_by}
+use Rattle.vub_proto.specs.declared.answer.Answer.{Answer}
 use Rattle.vub_proto.specs.declared.used.Used.{Used}
 use Rattle.vub_model.specs.declared.label.Label.{Label}
 use Rattle.vub_model.specs.declared.label.Label.TheVariants.{Pass, Guest, Control, Poll, Event, Sweep, Hear, Take}
 use Rattle.vub_model.specs.declared.label.Label.TheVariants.{Serve, Put}
+use Rattle.vub_model.specs.declared.records.DeviceCall.{DeviceCall}
 use Rattle.vub_model.specs.declared.records.Take as records
 use Rattle.vub_model.specs.declared.records.Stop.{Stop}
 use Rattle.vub_model.specs.declared.records.Count.{Count}
 use Rattle.vub_model.specs.declared.records.Span.{Span}
 use Rattle.vub_text.specs.Words.{hex_text, yes_no, cause_text}
+use Rattle.vub_text.specs.Answers.{answer_text}
+use Rattle.vub_text.specs.Calls.{device_name, outcome_text}
 
 -- a turn is played unless its party passed
 abbrev pub is_played : Label → Bool
@@ -28,6 +32,21 @@ unfoldable pub turns_line : List Label → Bool → List ℕ
 turns_line labels rest =
     codes "turns " ++ decimal (length labels) ++ codes " played " ++ decimal (count_by is_played labels)
     ++ codes " rest " ++ yes_no rest ++ codes "\n"
+
+-- an answer to the request with this number
+unfoldable pub answer_line : ℕ → Answer → List ℕ
+answer_line number a = codes "answer " ++ decimal number ++ codes " " ++ answer_text a ++ codes "\n"
+
+-- the answers, numbered from here on
+abbrev pub answer_lines : ℕ → List Answer → List ℕ
+answer_lines number [] = []
+answer_lines number (a ∷ answers) = answer_line number a ++ answer_lines (number + 1) answers
+
+-- a call of the device: its name, its two numbers, and whether it was refused
+unfoldable pub device_line : DeviceCall → List ℕ
+device_line c =
+    codes "device " ++ device_name c.op ++ codes " " ++ decimal c.a ++ codes " " ++ decimal c.b ++ codes " " ++
+    outcome_text c.refused ++ codes "\n"
 
 abbrev pub take_place : records.Take → List ℕ
 take_place t =

@@ -1,6 +1,8 @@
 //! The printed text of a run: one line for each thing that happened, in a fixed order.
 #![tactic(auto)]
 
+mod answers;
+mod calls;
 mod causes;
 mod entries;
 mod hexadecimal;

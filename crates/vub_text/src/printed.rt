@@ -1,6 +1,7 @@
 ghost use Rattle.std.specs.Prelude.{◌≡◌, IfOk};
 ghost use Rattle.vub_text.specs.Text.{run_text};
 
+use crate::answers::push_answer_lines;
 use crate::lines::push_lines;
 use crate::turns::push_turns_line;
 use std::alloc::Global;
@@ -17,6 +18,8 @@ pub fn print_run(alloc: Global, run: &Run) -> Result<Bytes, OutOfMemory>
 {
     let mut text = String::new(alloc);
     push_turns_line(&mut text, run.labels.as_slice(), run.rest)?;
+    push_answer_lines(alloc, &mut text, run.answers.as_slice())?;
+    push_lines(alloc, &mut text, run.device.as_slice())?;
     push_lines(alloc, &mut text, run.takes.as_slice())?;
     push_lines(alloc, &mut text, run.uses.as_slice())?;
     push_lines(alloc, &mut text, run.stops.as_slice())?;
