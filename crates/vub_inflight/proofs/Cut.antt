@@ -1,29 +1,27 @@
 -- Whatever calls were made, a cut loses nothing.
-use Rattle.std.proofs.Common.{◌≡◌, ◌≢◌, ◌⊎◌, ℕ, zero, suc, ◌+◌, ◌-◌, ◌*◌, ◌%◌, ◌^◌, ◌<◌, ◌≤◌, inl, inr, Bool, true, false, not, ◌||◌, cond, List, [], ◌∷◌, ◌++◌, Result, Ok, Err, refl, sym, ap, ap₂, subst, ◌∙◌, arith, ltb, eqb, length, get_or, set, map, drop, append-nil}
-use Rattle.std.specs.List.{filter, list_any, AllByRecursion as Each}
-use Rattle.std.proofs.lemmas.Bool.{cases_Bool, eqb-false, eqb-true, eq-eqb, ne_eqb, lt-ltb, cond-true, cond-false, or_left, or_right, or_from}
+use Rattle.std.proofs.Common.{◌≡◌, ℕ, suc, ◌+◌, ◌-◌, ◌*◌, ◌%◌, ◌^◌, ◌<◌, Bool, true, false, not, ◌||◌, cond, List, [], ◌∷◌, Ok, Err, refl, sym, ap, ap₂, ◌∙◌, arith, ltb, eqb, length, set, drop}
+use Rattle.std.specs.List.{AllByRecursion as Each}
+use Rattle.std.proofs.lemmas.Bool.{eq-eqb, ne_eqb, lt-ltb, cond-false, or_left, or_right, or_from}
 use Rattle.vub_mem.specs.Memory.{Guest}
 use Rattle.vub_mem.specs.Place.{covers, number_at}
 use Rattle.std.specs.Int.{w16}
 use Rattle.vub_queue.specs.EntryNumber.{after}
 use Rattle.vub_queue.specs.Layout.{used_index_at, at_of}
 use Rattle.vub_queue.specs.Ring.{Ring}
-use Rattle.vub_queue.specs.declared.chain.Chain.{Chain}
 use Rattle.vub_inflight.specs.Bytes.{record_of, word_in, slots_in, flags_fit}
-use Rattle.vub_inflight.specs.Machine.{World, Entry, IsLike, open_of, open_in, entry_heads}
+use Rattle.vub_inflight.specs.Machine.{Entry, IsLike, open_of, entry_heads}
 use Rattle.vub_inflight.specs.declared.mark.Mark.{Mark}
 use Rattle.vub_inflight.specs.Order.{marks_of, heads_of, has_twins, is_spent}
 use Rattle.vub_inflight.specs.Recover.{index_in, index_covered, live_slots, recover_from, recovered, resumed_of}
 use Rattle.vub_inflight.specs.State.{State, idle}
-use Rattle.vub_inflight.specs.declared.error.RecoverError.{RecoverError}
 use Rattle.vub_inflight.specs.declared.error.RecoverError.TheVariants.{Length, Version, Size, Flag, Head, Counter, Outside, UsedMoved, CounterSpent}
 use Rattle.vub_inflight.specs.declared.resumed.Resumed.{Resumed}
 use Rattle.vub_inflight.specs.declared.slot.Slot.{Slot}
 use Rattle.vub_inflight.specs.declared.stage.Stage.{Stage}
 use Rattle.vub_inflight.specs.declared.stage.Stage.TheVariants.{Settled, Marked, Published, Cleared}
-use Rattle.vub_inflight.proofs.MarkLaws.{marks_from, without, kept_each, weaker, marks_cleared}
+use Rattle.vub_inflight.proofs.MarkLaws.{marks_from, without, kept_each, marks_cleared}
 use Rattle.vub_inflight.proofs.Round.{clear_in, Fits, slots_round, flags_round, length-record_of, rest-record_of, version-record_of, size-record_of, last-record_of, used-record_of, fits_from, marks-clear_in}
-use Rattle.vub_inflight.proofs.Keeps.{Ascends, Keeps, StageIs, live_of, live_whole, live_half, moved}
+use Rattle.vub_inflight.proofs.Keeps.{Ascends, Keeps, StageIs, live_of}
 
 no_twins : (ms : List Mark) → Ascends ms → has_twins ms ≡ false
 no_twins [] a = refl

@@ -1,5 +1,5 @@
 -- Laws of the entries that were taken and not published.
-use Rattle.std.proofs.Common.{◌≡◌, ◌≢◌, ◌⊎◌, ℕ, zero, suc, ◌+◌, ◌<◌, ◌≤◌, inl, inr, Bool, true, false, not, ◌&&◌, ◌||◌, cond, List, [], ◌∷◌, ◌++◌, refl, sym, ap, ap₂, subst, ◌∙◌, arith, ltb, eqb, length, map, length-append}
+use Rattle.std.proofs.Common.{◌≡◌, ◌≢◌, ℕ, suc, ◌+◌, ◌<◌, ◌≤◌, inl, inr, Bool, true, false, not, ◌&&◌, ◌||◌, cond, List, [], ◌∷◌, ◌++◌, refl, sym, ap, subst, ◌∙◌, arith, eqb, length, map}
 use Rattle.std.specs.List.{filter, list_any, AllByRecursion as Each}
 use Rattle.std.proofs.lemmas.Bool.{cases_Bool, eqb-false, eqb-true, eq-eqb, ne_eqb, cond-true, cond-false, or_from, or_parts, not-true}
 use Rattle.std.proofs.lemmas.List.Elements.{filter-append}
@@ -7,7 +7,6 @@ use Rattle.vub_mem.specs.Laws.{IsIn}
 use Rattle.vub_inflight.specs.Machine.{Entry, IsOnce, open_of, entry_heads}
 use Rattle.vub_inflight.specs.declared.mark.Mark.{Mark}
 use Rattle.vub_inflight.specs.Order.{put_in, heads_of}
-use Rattle.vub_inflight.specs.State.{idle}
 use Rattle.vub_inflight.specs.declared.slot.Slot.{Slot}
 use Rattle.vub_inflight.proofs.MarkLaws.{marks_from, without, weaker, kept_each, each_append, each_put, marks_high, marks_some, marks_none, put_low, put_high, order}
 

@@ -1,32 +1,24 @@
 -- What every call keeps.
-use Rattle.std.proofs.Common.{◌≡◌, ◌≢◌, ◌⊎◌, ℕ, zero, suc, ◌+◌, ◌-◌, ◌%◌, ◌^◌, ◌<◌, ◌≤◌, inl, inr, Bool, true, false, not, cond, true≢false, List, [], ◌∷◌, ◌++◌, Result, Ok, Err, refl, sym, ap, ap₂, subst, ◌∙◌, arith, ltb, eqb, length, get_or, set, map, replicate, length-set, length-append, get_or-set_same, get_or-set_other}
+use Rattle.std.proofs.Common.{◌≡◌, ◌≢◌, ◌⊎◌, ℕ, ◌+◌, ◌-◌, ◌%◌, ◌^◌, ◌<◌, inl, inr, Bool, true, false, not, cond, true≢false, List, [], ◌∷◌, ◌++◌, refl, sym, ap, subst, ◌∙◌, arith, eqb, length, get_or, set, length-set, length-append, get_or-set_same, get_or-set_other}
 use Rattle.std.specs.List.{filter, list_any, AllByRecursion as Each}
-use Rattle.std.proofs.lemmas.Bool.{cases_Bool, eqb-false, eqb-true, eq-eqb, ne_eqb, cond-true, cond-false}
+use Rattle.std.proofs.lemmas.Bool.{eq-eqb, ne_eqb, cond-true, cond-false}
 use Rattle.vub_mem.specs.Laws.{IsIn}
 use Rattle.vub_mem.specs.Memory.{Guest}
-use Rattle.vub_queue.specs.Chain.{Links}
 use Rattle.vub_queue.specs.EntryNumber.{after}
-use Rattle.vub_queue.specs.Layout.{Table, table_of, used_index_at}
-use Rattle.vub_queue.specs.Ring.{Ring}
-use Rattle.vub_queue.specs.Take.{Taken}
+use Rattle.vub_queue.specs.Layout.{used_index_at}
 use Rattle.vub_queue.specs.declared.chain.Chain.{Chain}
-use Rattle.vub_queue.specs.declared.descriptor.Descriptor.{Descriptor}
-use Rattle.vub_queue.specs.declared.took.Took.TheVariants as took
 use Rattle.vub_mem.specs.Place.{covers}
-use Rattle.vub_inflight.specs.Machine.{World, Entry, Call, Step, Runs, open_of, open_in, entry_heads, KeepsIndex}
-use Rattle.vub_inflight.specs.Machine.Call.{takes, marks, publishes, clears, settles, stores}
+use Rattle.vub_inflight.specs.Machine.{Entry, open_of, entry_heads}
 use Rattle.vub_inflight.specs.declared.mark.Mark.{Mark}
 use Rattle.vub_inflight.specs.Order.{marks_of, heads_of}
 use Rattle.vub_inflight.specs.Recover.{index_in, index_covered}
 use Rattle.vub_inflight.specs.State.{State, idle, in_flight}
-use Rattle.vub_inflight.specs.Steps.{IsWhole, Takes, state_took, state_marked, state_published, state_cleared, state_settled}
-use Rattle.vub_inflight.specs.declared.next_entry.NextEntry.{NextEntry}
-use Rattle.vub_inflight.specs.declared.next_entry.NextEntry.TheVariants as entry
+use Rattle.vub_inflight.specs.Steps.{IsWhole, state_took, state_marked, state_published, state_cleared, state_settled}
 use Rattle.vub_inflight.specs.declared.slot.Slot.{Slot}
 use Rattle.vub_inflight.specs.declared.stage.Stage.{Stage}
 use Rattle.vub_inflight.specs.declared.stage.Stage.TheVariants.{Settled, Marked, Published, Cleared}
 use Rattle.vub_inflight.proofs.MarkLaws.{marks_from, without, weaker, kept_each, each_append, marks_taken, marks_cleared, mark_there, no_mark, without_none, without_push}
-use Rattle.vub_inflight.proofs.Entries.{Apart, numbers_of, others, but, goes, heads-without, marks_apart, apart_kept, apart_push, apart_open, open_taken, open_published, map_each, unmap_each, in_each, not_published, once_push, entry_with}
+use Rattle.vub_inflight.proofs.Entries.{Apart, numbers_of, others, but, goes, heads-without, marks_apart, apart_kept, apart_push, apart_open, open_taken, open_published, map_each, in_each, not_published, once_push, entry_with}
 
 -- each counter is below all that follow
 abbrev pub Ascends : List Mark → Type 0

@@ -1,3 +1,4 @@
+pub mod Conditions
 pub mod Cut
 pub mod Entries
 pub mod Heads

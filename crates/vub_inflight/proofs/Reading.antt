@@ -1,6 +1,6 @@
 -- Steps of reading the slots of a record, and their marks.
-use Rattle.std.proofs.Common.{◌≡◌, ℕ, zero, suc, ◌+◌, ◌-◌, ◌*◌, ◌<◌, ◌≤◌, ◌^◌, inl, inr, Bool, true, false, not, ◌&&◌, ◌||◌, cond, List, [], ◌∷◌, ◌++◌, Option, Some, None, refl, sym, ap, ap₂, subst, ◌∙◌, arith, ltb, leb, eqb, length, take, drop, get_or, append_assoc, append-nil, length-append, length-drop, drop-cons, w64, Fits as Within, rules}
-use Rattle.std.proofs.lemmas.Bool.{cases_Bool, cond-true, cond-false, le-leb, leb-true, lt-ltb, le-ltb, ltb-true, ltb-false, ne_eqb, eqb-false, eq-eqb, or_parts, and_parts}
+use Rattle.std.proofs.Common.{◌≡◌, ℕ, zero, suc, ◌+◌, ◌-◌, ◌*◌, ◌<◌, ◌≤◌, ◌^◌, inl, inr, Bool, true, false, ◌&&◌, cond, List, [], ◌∷◌, ◌++◌, refl, sym, ap, ap₂, ◌∙◌, arith, leb, eqb, length, drop, get_or, append_assoc, append-nil, length-drop, drop-cons, w64, Fits as Within, rules}
+use Rattle.std.proofs.lemmas.Bool.{cases_Bool, cond-true, cond-false, le-leb, leb-true, eqb-false, or_parts}
 use Rattle.vub_inflight.specs.Bytes.{slot_in, slots_in, flags_fit}
 use Rattle.vub_inflight.specs.Order.{flying_from, has_twins, is_spent, next_after}
 use Rattle.vub_inflight.specs.State.{idle}

@@ -1,13 +1,12 @@
 -- A record is read from its bytes as it was written.
-use Rattle.std.proofs.Common.{◌≡◌, ℕ, zero, suc, ◌+◌, ◌*◌, ◌<◌, ◌≤◌, ◌^◌, inl, inr, Bool, true, false, not, ◌&&◌, cond, List, [], ◌∷◌, ◌++◌, refl, sym, ap, ap₂, subst, ◌∙◌, arith, ltb, leb, eqb, length, take, drop, get_or, set}
+use Rattle.std.proofs.Common.{◌≡◌, ℕ, ◌+◌, ◌*◌, ◌<◌, ◌≤◌, ◌^◌, inl, inr, Bool, true, false, cond, List, [], ◌∷◌, ◌++◌, refl, sym, ap, ap₂, subst, ◌∙◌, arith, leb, length, drop}
 use Rattle.std.specs.List.{flat_map, AllByRecursion as Each}
-use Rattle.std.specs.Int.{w16, w64, to_le_bytes, from_le_bytes}
+use Rattle.std.specs.Int.{w64, to_le_bytes, from_le_bytes}
 use Rattle.std.proofs.lemmas.Bool.{cases_Bool, cond-true, cond-false, and_from}
 use Rattle.std.proofs.lemmas.Nat.{from_le_bytes-to_le_bytes_2, from_le_bytes-to_le_bytes_8}
 use Rattle.vub_inflight.specs.Bytes.{slot_bytes, record_of, word_in, slot_in, slots_in, flags_fit}
-use Rattle.vub_inflight.specs.declared.mark.Mark.{Mark}
 use Rattle.vub_inflight.specs.Order.{put_in}
-use Rattle.vub_inflight.specs.State.{State, idle}
+use Rattle.vub_inflight.specs.State.{State}
 use Rattle.vub_inflight.specs.declared.slot.Slot.{Slot}
 use Rattle.vub_inflight.proofs.MarkLaws.{marks_from, each_unput, marks_some, marks_none}
 

@@ -1,31 +1,28 @@
 -- Each beginning has what is kept, and every step keeps it.
-use Rattle.std.proofs.Common.{◌≡◌, ◌≢◌, ◌⊎◌, ℕ, zero, suc, ◌+◌, ◌*◌, ◌%◌, ◌^◌, ◌<◌, ◌≤◌, inl, inr, Bool, true, false, true≢false, not, ◌||◌, cond, List, [], ◌∷◌, ◌++◌, Result, Ok, Err, refl, sym, ap, ap₂, subst, ◌∙◌, arith, ltb, eqb, length, get_or, set, map, drop, append-nil, replicate, length-set}
-use Rattle.std.specs.List.{filter, list_any, AllByRecursion as Each}
-use Rattle.std.proofs.lemmas.Bool.{cases_Bool, eqb-false, eqb-true, eq-eqb, ltb-true, cond-true, cond-false, or_parts}
+use Rattle.std.proofs.Common.{◌≡◌, ◌≢◌, ℕ, zero, suc, ◌+◌, ◌*◌, ◌%◌, ◌^◌, ◌<◌, ◌≤◌, inl, inr, Bool, true, false, true≢false, not, ◌||◌, cond, List, [], ◌∷◌, ◌++◌, Result, Ok, Err, refl, sym, ap, subst, ◌∙◌, arith, ltb, eqb, length, get_or, set, drop, append-nil, replicate, length-set}
+use Rattle.std.specs.List.{AllByRecursion as Each}
+use Rattle.std.proofs.lemmas.Bool.{eqb-false, ltb-true, or_parts}
 use Rattle.std.proofs.lemmas.List.{length-replicate}
 use Rattle.vub_mem.specs.Memory.{Guest}
 use Rattle.vub_queue.specs.EntryNumber.{after}
 use Rattle.vub_queue.specs.Ring.{Ring}
-use Rattle.vub_queue.specs.declared.chain.Chain.{Chain}
-use Rattle.vub_queue.specs.declared.took.Took.TheVariants as took
-use Rattle.vub_inflight.specs.Bytes.{record_of, word_in, slots_in, flags_fit}
+use Rattle.vub_inflight.specs.Bytes.{word_in, slots_in, flags_fit}
 use Rattle.vub_inflight.specs.Law.{GoesOn, IsFresh, IsResumed, Begins}
-use Rattle.vub_inflight.specs.Machine.{World, Entry, Call, IsLike, IsOnce, Step, Runs, open_of, open_in, entry_heads, numbered}
+use Rattle.vub_inflight.specs.Machine.{World, Entry, Call, IsLike, Step, Runs, open_of, entry_heads, numbered}
 use Rattle.vub_inflight.specs.Machine.Call.{takes, marks, publishes, clears, settles, stores, restarts}
 use Rattle.vub_inflight.specs.declared.mark.Mark.{Mark}
 use Rattle.vub_inflight.specs.Order.{marks_of, heads_of, has_twins, is_spent, next_after}
 use Rattle.vub_inflight.specs.Recover.{index_in, index_covered, live_slots, recover_from, recovered, resumed_of}
-use Rattle.vub_inflight.specs.State.{State, idle, in_flight}
+use Rattle.vub_inflight.specs.State.{State, idle}
 use Rattle.vub_inflight.specs.Steps.{new_state, state_took, state_marked, state_published, state_cleared, state_settled}
 use Rattle.vub_inflight.specs.declared.error.RecoverError.{RecoverError}
 use Rattle.vub_inflight.specs.declared.error.RecoverError.TheVariants.{Length, Version, Size, Flag, Head, Counter, Outside, UsedMoved, CounterSpent}
 use Rattle.vub_inflight.specs.declared.next_entry.NextEntry.TheVariants as entry
 use Rattle.vub_inflight.specs.declared.resumed.Resumed.{Resumed}
 use Rattle.vub_inflight.specs.declared.slot.Slot.{Slot}
-use Rattle.vub_inflight.specs.declared.stage.Stage.TheVariants.{Settled, Marked, Published, Cleared}
-use Rattle.vub_inflight.proofs.MarkLaws.{marks_from, without, weaker, kept_each, Sorted, marks_sorted, marks_cleared}
-use Rattle.vub_inflight.proofs.Entries.{Apart, numbers_of, keep_all, map_each}
-use Rattle.vub_inflight.proofs.Round.{clear_in, marks-clear_in}
+use Rattle.vub_inflight.proofs.MarkLaws.{marks_from, without, weaker, Sorted, marks_sorted, marks_cleared}
+use Rattle.vub_inflight.proofs.Entries.{Apart, numbers_of}
+use Rattle.vub_inflight.proofs.Round.{clear_in}
 use Rattle.vub_inflight.proofs.Heads.{entry_below}
 use Rattle.vub_inflight.proofs.Keeps.{Ascends, ascends_kept, Keeps, live_of, live_whole, found_open, keeps_took, keeps_marked, keeps_published, keeps_cleared, keeps_settled, keeps_memory}
 use Rattle.vub_queue.proofs.IndexBack.{index_back, regions-put_guest}

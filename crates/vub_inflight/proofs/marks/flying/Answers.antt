@@ -1,9 +1,9 @@
-use Rattle.std.proofs.Common.{◌≡◌, ◌<◌, ◌+◌, ◌++◌, ◌∙◌, ap, drop, get_or, length, refl}
+use Rattle.std.proofs.Common.{◌+◌, ◌++◌, ◌∙◌, ap, drop, get_or, refl}
 use Rattle.vub_inflight.specs.Order.{flying_from}
 use Rattle.vub_inflight.specs.State.{idle}
 use Rattle.vub_inflight.proofs.marks.flying.Goals as goal
 use Rattle.vub_inflight.proofs.marks.flying.Goals.{then-slot+in_ok-push, else-slot}
-use Rattle.vub_inflight.proofs.Reading.{flying_end, flying_less, flying_more}
+use Rattle.vub_inflight.proofs.Reading.{flying_less, flying_more}
 
 pub loop-head-preserved : goal.loop-head-preserved
 loop-head-preserved c =
