@@ -1,6 +1,6 @@
 -- A request that is under way: what is left of its plan. The regions that a change of the table leaves are known to the
 -- table alone, so the call that tells the device of them is filled in where the table is changed.
-use Rattle.std.specs.Prelude.{◌≡◌, ℕ, Bool, true, List, ◌∷◌}
+use Rattle.std.specs.Prelude.{◌≡◌, ℕ, Bool, true, List, [], ◌∷◌}
 use Rattle.vub_mem.specs.declared.region.Region.{Region}
 use Rattle.vub_proto.specs.declared.device_op.DeviceOp.TheVariants as device
 use Rattle.vub_proto.specs.declared.request.Request.{Request}
@@ -8,8 +8,9 @@ use Rattle.vub_proto.specs.declared.request.Request.TheVariants.{RegisterListene
 use Rattle.vub_model.specs.declared.session.Session.{Session}
 use Rattle.vub_model.specs.declared.small.Small.{Small}
 use Rattle.vub_model.specs.declared.small.Small.TheVariants.{Table, Device}
+use Rattle.vub_model.specs.declared.small.Small.TheVariants.{Answer as Answering}
 use Rattle.vub_model.specs.declared.wiring.Known.{Known}
-use Rattle.vub_model.specs.Control.{tail_of}
+use Rattle.vub_model.specs.Control.{tail_of, drop_two, instead, told}
 use Rattle.vub_model.specs.Frame.{Frame, is_there}
 use Rattle.vub_model.specs.Plans.{Reply, says, next_of, Plan, regions_after, plan_of}
 use Rattle.vub_model.specs.Wiring.{Wiring}
@@ -17,6 +18,10 @@ use Rattle.vub_plan.specs.declared.half.Due.{Due}
 use Rattle.vub_plan.specs.declared.half.Due.TheVariants as due
 use Rattle.vub_plan.specs.declared.half.Head.{Head}
 use Rattle.vub_plan.specs.declared.half.Head.TheVariants as head
+use Rattle.vub_plan.specs.declared.half.Stage.{Stage}
+use Rattle.vub_plan.specs.declared.half.Stage.TheVariants as stage
+use Rattle.vub_plan.specs.declared.half.Turn.{Turn}
+use Rattle.vub_plan.specs.declared.half.Turn.TheVariants as turn
 
 abbrev pub reply_of : Due → Reply
 reply_of (due.Says a) = says a
@@ -62,13 +67,19 @@ IsWiredPlan g s request b = (known : List Known) → IsPlanOf g known s request 
 
 -- Steps that are played
 
--- this is the first step
-abbrev pub IsFirst : Small → Begun → Type 0
-IsFirst s b = (rs : List Region) → (plan_at rs b).steps ≡ s ∷ tail_of (plan_at rs b).steps
-
+-- the plan with its first step off
 abbrev pub dropped : Plan → Plan
 dropped p = record p { steps = tail_of p.steps }
 
--- what is left is this function of what was left
-abbrev pub BecomesBy : (Plan → Plan) → Begun → Begun → Type 0
-BecomesBy change old new = (rs after : List Region) → plan_at after new ≡ change (plan_at rs old)
+-- which step is the next
+abbrev pub stage_of : List Small → Stage
+stage_of [] = stage.Spent
+stage_of (Answering ∷ rest) = stage.Answer
+stage_of (s ∷ rest) = stage.Step
+
+-- what a step that was played makes of the steps after it
+abbrev pub turned : Turn → Plan → Plan
+turned turn.Goes p = p
+turned turn.Skips p = record p { steps = drop_two p.steps }
+turned (turn.Instead a) p = instead a p
+turned (turn.Tells a) p = told a p

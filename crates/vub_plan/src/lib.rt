@@ -16,7 +16,7 @@ mod steps;
 mod wired;
 
 pub use features::known_at;
-pub use half::{Due, Half, Head};
+pub use half::{Due, Half, Head, Stage, Turn};
 pub use places::has_bit;
 pub use planning::plan;
 pub use steps::PlanSteps;

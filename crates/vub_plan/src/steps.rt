@@ -1,4 +1,5 @@
-ghost use Rattle.std.specs.Prelude.{◌≡◌, ◌∷◌, [], Some, IfOk, slice_get, drop};
+ghost use Rattle.std.specs.Prelude.{◌≡◌, ◌≢◌, ◌∷◌, [], Some, None, IfOk};
+ghost use Rattle.vub_model.specs.Control.{tail_of};
 
 use sqlite_items::Boxed;
 use std::alloc::Global;
@@ -49,7 +50,8 @@ impl PlanSteps {
 
     /// The first step, if it is not the Answer that ends the plan.
     pub fn first(&self) -> Option<&Boxed<Small>>
-        ensures some { (small : _) → result ≡ Some small → self.now ≡ small.now ∷ drop 1 self.now }
+        ensures some { (small : _) → result ≡ Some small → self.now ≡ small.now ∷ tail_of self.now }
+        ensures more { (small : _) → result ≡ Some small → tail_of self.now ≢ [] }
         ensures none { result ≡ None → self.now ≡ Small.Answer ∷ [] }
     {
         self.backwards.last()
