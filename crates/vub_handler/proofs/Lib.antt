@@ -1,0 +1,3 @@
+pub mod HostRows
+pub mod PartRows
+pub mod Telling
