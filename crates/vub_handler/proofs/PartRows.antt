@@ -194,7 +194,7 @@ module _ {V : Type 0} (g : Wiring) (Sound Rise : Type 0) (old new : Option (Shar
 -- Steps that were made
 
 -- a device that is not called stays
-uncalled : {D : Type 0} (t : Telling D) (old new : Option D) → new ≡ old → Told old new (λ d e. device_calls.Tells t d [] × (e ≡ moved_by t d []))
+pub uncalled : {D : Type 0} (t : Telling D) (old new : Option D) → new ≡ old → Told old new (λ d e. device_calls.Tells t d [] × (e ≡ moved_by t d []))
 uncalled t None new same = tt
 uncalled t (Some d) None same = absurd cc
 uncalled t (Some d) (Some e) same = (tt, cc)

@@ -6,6 +6,7 @@ use Rattle.vub_base.specs.Told.{Told}
 use Rattle.vub_event.specs.HostTable.{HostTable, has_event}
 use Rattle.vub_event.specs.HostCalls.{has_both}
 use Rattle.vub_event.specs.declared.error.HostError.TheVariants as host_error
+use Rattle.vub_proto.specs.declared.answer.Answer.{Answer}
 use Rattle.vub_proto.specs.declared.answer.Answer.TheVariants as answer
 use Rattle.vub_proto.specs.declared.answer.Cause.TheVariants as cause
 use Rattle.vub_proto.specs.declared.answer.ListenerError.TheVariants as listener_error
@@ -13,7 +14,8 @@ use Rattle.vub_proto.specs.declared.answer.VhostUserError.TheVariants as error
 use Rattle.vub_proto.specs.declared.device_said.DeviceSaid.{DeviceSaid}
 use Rattle.vub_proto.specs.declared.device_said.DeviceSaid.TheVariants as outcome
 use Rattle.vub_model.specs.declared.small.Small.{Small}
-use Rattle.vub_model.specs.declared.small.Small.TheVariants.{Claim, Add, Delete, Listen, Unlisten, Device}
+use Rattle.vub_model.specs.declared.small.Small.TheVariants.{Claim, Release, Add, Delete, Listen}
+use Rattle.vub_model.specs.declared.small.Small.TheVariants.{Unlisten, Bell, Device}
 use Rattle.vub_model.specs.Control.{small_after, waits_now, rest_after, MaySay}
 use Rattle.vub_model.specs.DeviceCalls.{Call, Telling, is_refused, moved_by}
 use Rattle.vub_model.specs.DeviceCalls as device_calls
@@ -94,14 +96,25 @@ pub record IsRowOf {V : Type 0} (g : Wiring) (s : Small) (said : DeviceSaid) (t 
   pub shared : new ≡ small_after g old s
   pub rest : (p : Plan) → turned t p ≡ rest_after g old s said p
 
+-- the steps that call the host
+abbrev pub calls_host : Small → Bool
+calls_host (Claim object queue) = true
+calls_host (Release object) = true
+calls_host (Add worker object token) = true
+calls_host (Delete worker object) = true
+calls_host (Listen worker object token) = true
+calls_host (Unlisten worker object above) = true
+calls_host (Bell object) = true
+calls_host s = false
+
 -- the host failed at it
-abbrev pub IsFaultOf : {V : Type 0} → Turn → Shared V → Shared V → Type 0
-IsFaultOf t old new = (t ≡ host_failed) × (new ≡ old)
+abbrev pub IsFaultOf : {V : Type 0} → Small → Turn → Shared V → Shared V → Type 0
+IsFaultOf s t old new = (calls_host s ≡ true) × (t ≡ host_failed) × (new ≡ old)
 
 -- a step that names what is there is its row, or the host failed at it
 abbrev pub IsRow : {V : Type 0} → Type 0 → Type 0 → Wiring → Small → DeviceSaid → Turn → Shared V → Shared V → Type 0
 IsRow Sound Rise g s said t old new =
-    IsNamed g old.table s → RowOrFault Sound Rise (IsRowOf g s said t old new) (IsFaultOf t old new)
+    IsNamed g old.table s → RowOrFault Sound Rise (IsRowOf g s said t old new) (IsFaultOf s t old new)
 
 abbrev pub RowBy : {V D : Type 0} → Wiring → Small → DeviceSaid → Turn → PartsState V D → PartsState V D → Type 0
 RowBy g s said t old new = Tells old new (IsRow old.NeverFails (HasFailed old new) g s said t)
@@ -111,9 +124,14 @@ abbrev pub HasRefused : {V D : Type 0} → PartsState V D → PartsState V D →
 HasRefused old new = Rose old.refusals new.refusals
 
 -- told or not, host and device are named as the cause of a refusal only where their counts rose
+abbrev pub IsCausedAnswer : Type 0 → Type 0 → Answer → Type 0
+IsCausedAnswer Failed Refused (answer.Failed (error.ReqHandlerError cause.Host)) = Failed
+IsCausedAnswer Failed Refused (answer.Failed (error.ReqHandlerError (cause.Device n))) = Refused
+IsCausedAnswer Failed Refused a = Unit {0}
+
 abbrev pub IsCaused : Type 0 → Type 0 → Turn → Type 0
-IsCaused Failed Refused (turn.Instead (answer.Failed (error.ReqHandlerError cause.Host))) = Failed
-IsCaused Failed Refused (turn.Instead (answer.Failed (error.ReqHandlerError (cause.Device n)))) = Refused
+IsCaused Failed Refused (turn.Instead a) = IsCausedAnswer Failed Refused a
+IsCaused Failed Refused (turn.Tells a) = IsCausedAnswer Failed Refused a
 IsCaused Failed Refused t = Unit {0}
 
 -- What a step that asks no device leaves. Its only error is want of memory, which leaves what is shared.

@@ -15,13 +15,12 @@ use vub_vring::{Parts, TableSaid};
 pub(crate) fn change<P: Parts>(
     alloc: Global,
     parts: &mut P,
-    change: &TableOp,
+    change: TableOp,
 ) -> Result<TableSaid, OutOfMemory>
-    ensures row { TellsOf result (P.state parts.old) (P.state parts.new) (TableCall change.now) }
+    ensures row { TellsOf result (P.state parts.old) (P.state parts.new) (TableCall change) }
     ensures said { IfOk result IsTableSaid }
     ensures frame { PlainFrame (P.state parts.old) (P.state parts.new) result }
 {
-    let change = copied_change(alloc, change)?;
     match parts.table(alloc, change) {
         Ok(said) => Ok(said),
         Err(_) => Err(OutOfMemory),
@@ -52,5 +51,6 @@ pub(crate) fn table<P: Parts>(
     ensures cause { CausedBy result (P.state parts.old) (P.state parts.new) }
     ensures frame { PlainFrame (P.state parts.old) (P.state parts.new) result }
 {
+    let op = copied_change(alloc, op)?;
     Ok(changed(change(alloc, parts, op)?))
 }

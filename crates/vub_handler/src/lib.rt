@@ -6,11 +6,18 @@ mod acting;
 mod asking;
 mod changing;
 mod copies;
+mod due;
 mod error;
+mod handler;
 mod hosting;
+mod known;
 mod pending;
+mod played;
 mod ringing;
 mod turns;
 
 pub use acted::Acted;
 pub use error::VhostUserHandlerError;
+pub use handler::VhostUserHandler;
+pub use played::Played;
+pub use vub_plan::{Half, Wired};

@@ -1,13 +1,14 @@
-ghost use Rattle.std.specs.Prelude.{◌≡◌, ◌≢◌, ◌⊎◌, ◌∷◌, [], None, Some};
+ghost use Rattle.std.specs.Prelude.{◌≡◌, ◌≢◌, ◌⊎◌, ◌∷◌, [], None, Some, IfOk};
 ghost use Rattle.vub_model.specs.Plans.{says};
 ghost use Rattle.vub_model.specs.Control.{tail_of, instead, told};
 ghost use Rattle.vub_plan.specs.Halves.{of_plan, reply_of, dropped, turned, stage_of};
 
+use crate::session::copied;
 use crate::steps::PlanSteps;
 use sqlite_items::Boxed;
 use std::alloc::Global;
 use std::marker::Model;
-use vub_base::Listed;
+use vub_base::{Listed, OutOfMemory};
 use vub_mem::Region;
 use vub_model::{Session, Small, TableOp};
 use vub_proto::Answer;
@@ -139,11 +140,14 @@ impl Half {
         &self.due
     }
 
-    /// The session after an answer that is no refusal.
-    pub fn session(&self) -> &Session
-        ensures { result.now ≡ self.now.plan.session }
+    /// A copy of the session after an answer that is no refusal.
+    ///
+    /// # Errors
+    /// Want of memory.
+    pub fn session(&self, alloc: Global) -> Result<Session, OutOfMemory>
+        ensures { IfOk result (λ session. session ≡ self.now.plan.session) }
     {
-        &self.session
+        copied(alloc, &self.session)
     }
 
     /// Which step is the next, where nothing comes before the steps.
