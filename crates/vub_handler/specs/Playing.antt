@@ -22,6 +22,8 @@ use Rattle.vub_vring.specs.PartsState.{PartsState, HasFailed, Tells, Lasts}
 use Rattle.vub_plan.specs.Halves.{Begun, plan_at, dropped}
 use Rattle.vub_plan.specs.Wires.{known_in}
 use Rattle.vub_handler.specs.declared.played.Played.{Played}
+use Rattle.vub_handler.specs.declared.played.Progress.{Progress}
+use Rattle.vub_handler.specs.declared.played.Progress.TheVariants as progress
 use Rattle.vub_handler.specs.Acting.{IsNamed, RowOrFault, HasRefused, IsCausedAnswer, called, CallsBy}
 use Rattle.vub_handler.specs.Player.{Player}
 
@@ -98,6 +100,15 @@ abbrev pub PlayedBy : {V D : Type 0} → Telling D → Option Played → Player 
     → PartsState V D → Type 0
 PlayedBy t None before now was left old new = IsHeld before now was left old new
 PlayedBy t (Some p) before now was left old new = (said : DeviceSaid) × IsPlayed t p said before now was left old new
+
+-- how far a request came by one step
+abbrev pub CameTo : {V D : Type 0} → Telling D → Progress → Player → Player → Begun → Begun → PartsState V D
+    → PartsState V D → Type 0
+CameTo t progress.Waits before now was left old new = IsHeld before now was left old new
+CameTo t progress.Going before now was left old new =
+    (p : Played) × (p.answer ≡ None) × PlayedBy t (Some p) before now was left old new
+CameTo t (progress.Done a) before now was left old new =
+    (p : Played) × (p.answer ≡ Some a) × PlayedBy t (Some p) before now was left old new
 
 -- What a play leaves, told or not. Its only error is want of memory, which leaves everything as it was.
 pub record PlayFrame {V D T E : Type 0} (before now : Player) (was left : Begun) (old new : PartsState V D)

@@ -4,7 +4,7 @@ ghost use Rattle.vub_model.specs.Control.{is_refusal};
 ghost use Rattle.vub_vring.specs.Calls.{telling};
 ghost use Rattle.vub_plan.specs.Halves.{stage_of, IsPlanOf};
 ghost use Rattle.vub_handler.specs.Player.{new_player, mapped};
-ghost use Rattle.vub_handler.specs.Playing.{PlayedBy, PlayFrame};
+ghost use Rattle.vub_handler.specs.Playing.{PlayedBy, CameTo, PlayFrame};
 
 use crate::acted::Acted;
 use crate::acting::act;
@@ -13,7 +13,7 @@ use crate::copies::copied_change;
 use crate::due::{due_answer, is_refusal};
 use crate::error::VhostUserHandlerError;
 use crate::known::learn;
-use crate::played::{Played, as_played};
+use crate::played::{Played, Progress, as_played, came_to};
 use sqlite_items::Boxed;
 use std::alloc::Global;
 use std::marker::Model;
@@ -291,6 +291,26 @@ impl VhostUserHandler {
                 Stage::Answer => self.play_answer(alloc, half, parts),
                 Stage::Step => self.play_step(alloc, half, parts),
             },
+        }
+    }
+
+    /// Plays one step of a request, and tells how far it came: Waits where `play` plays none.
+    ///
+    /// # Errors
+    /// Want of memory leaves the session, the request and the parts as they were.
+    pub fn step<P: Parts>(
+        &mut self,
+        alloc: Global,
+        half: &mut Half,
+        parts: &mut P,
+    ) -> Result<Progress, OutOfMemory>
+        ensures row { IfOk result (λ progress. CameTo (telling P.Device.said P.Device.moved) progress
+            self.old self.new half.old half.new (P.state parts.old) (P.state parts.new)) }
+        ensures frame { PlayFrame self.old self.new half.old half.new (P.state parts.old) (P.state parts.new) result }
+    {
+        match self.play(alloc, half, parts)? {
+            None => Ok(Progress::Waits),
+            Some(played) => Ok(came_to(played)),
         }
     }
 }

@@ -19,5 +19,5 @@ mod turns;
 pub use acted::Acted;
 pub use error::VhostUserHandlerError;
 pub use handler::VhostUserHandler;
-pub use played::Played;
+pub use played::{Played, Progress};
 pub use vub_plan::{Half, Wired};

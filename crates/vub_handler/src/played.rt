@@ -1,4 +1,5 @@
 ghost use Rattle.std.specs.Prelude.{◌≡◌};
+ghost use Rattle.vub_handler.specs.Player.{progress_of};
 
 use sqlite_items::Boxed;
 use vub_model::Small;
@@ -15,6 +16,17 @@ pub struct Played {
     pub answer: Option<Answer>,
 }
 
+/// How far a request came by one step.
+#[derive(Debug, Drop)]
+pub enum Progress {
+    /// A step was played, and more are left.
+    Going,
+    /// No step was played, since an entry in flight lets the next one wait.
+    Waits,
+    /// The request is answered.
+    Done(Answer),
+}
+
 /// This step was played.
 pub(crate) fn as_played(small: Boxed<Small>, refused: bool, answer: Option<Answer>) -> Played
     ensures { result ≡ record { small = small; refused = refused; answer = answer } }
@@ -23,5 +35,16 @@ pub(crate) fn as_played(small: Boxed<Small>, refused: bool, answer: Option<Answe
         small,
         refused,
         answer,
+    }
+}
+
+/// How far a request came by this step.
+pub(crate) fn came_to(played: Played) -> Progress
+    ensures { result ≡ progress_of played.answer }
+{
+    let Played { answer, .. } = played;
+    match answer {
+        None => Progress::Going,
+        Some(answer) => Progress::Done(answer),
     }
 }
