@@ -1,0 +1,5 @@
+pub mod HostRows
+pub mod PartRows
+pub mod PlayRows
+pub mod PlaySteps
+pub mod Telling

@@ -1,0 +1,23 @@
+//! The session that plays control requests, one small step at a time.
+#![tactic(auto)]
+
+mod acted;
+mod acting;
+mod asking;
+mod changing;
+mod copies;
+mod due;
+mod error;
+mod handler;
+mod hosting;
+mod known;
+mod pending;
+mod played;
+mod ringing;
+mod turns;
+
+pub use acted::Acted;
+pub use error::VhostUserHandlerError;
+pub use handler::VhostUserHandler;
+pub use played::{Played, Progress};
+pub use vub_plan::{Half, Wired};
