@@ -1,5 +1,7 @@
 pub mod Answers
 pub mod Counters
+pub mod Listeners
+pub mod Looping
 pub mod Masks
 pub mod Numbered
 pub mod Opened

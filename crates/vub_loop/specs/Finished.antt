@@ -6,7 +6,7 @@ use Rattle.vub_model.specs.declared.play.Play.{Play}
 use Rattle.vub_model.specs.declared.play.Play.TheVariants as play
 use Rattle.vub_loop.specs.declared.finished.Finished.{Finished}
 use Rattle.vub_loop.specs.declared.turned.Turned.{Turned}
-use Rattle.vub_loop.specs.declared.turned.Turned.TheVariants.{Pass, Played, Failed}
+use Rattle.vub_loop.specs.declared.turned.Turned.TheVariants.{Played}
 
 -- A Put that did not stop the worker used the entry that it began with, with the reply. Any other step used none.
 abbrev pub finished_by : Play → Phase → Phase → Option Finished

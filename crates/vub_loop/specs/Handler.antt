@@ -1,10 +1,12 @@
 -- What a worker is made of, by the wiring.
-use Rattle.std.specs.Prelude.{◌≡◌, ℕ, None, slice_index_or}
+use Rattle.std.specs.Prelude.{◌≡◌, ℕ, Option, None, slice_index_or}
 use Rattle.vub_model.specs.declared.constants.Constants.{Constants}
 use Rattle.vub_model.specs.declared.phase.Phase.{Phase}
 use Rattle.vub_model.specs.declared.phase.Phase.TheVariants.{Idle}
 use Rattle.vub_model.specs.declared.wiring.Opened.{Opened}
 use Rattle.vub_model.specs.Wiring.{Wiring, opened_at, queues_of, queues_in}
+use Rattle.vub_model.specs.Shared.{Shared}
+use Rattle.vub_vring.specs.Worker.{OpensFor}
 use Rattle.vub_loop.specs.Worker.{Worker}
 
 -- where the worker stands
@@ -36,3 +38,7 @@ pub record IsNew (given : Opened) (h : Worker) : Type 0 where
   pub opened : h.opened ≡ given
   pub phase : h.phase ≡ Idle
   pub finished : h.finished ≡ None
+
+-- The worker of this number was opened by these constants, and stands before its first step.
+abbrev pub IsOpened : {V : Type 0} → Constants → ℕ → Worker → Option (Shared V) → Option (Shared V) → Type 0
+IsOpened constants worker h old new = (h ≡ new_handler constants h.opened) × OpensFor constants worker h.opened old new

@@ -1,5 +1,5 @@
 -- The call of the device that a worker makes, and what becomes of the device.
-use Rattle.std.specs.Prelude.{◌≡◌, ℕ, Bool, true, false, List, [], ◌∷◌, Result, IfOk, OnErr}
+use Rattle.std.specs.Prelude.{◌≡◌, ℕ, Bool, true, false, List, [], Result, IfOk, OnErr}
 use Rattle.vub_base.specs.Causes.{Rose}
 use Rattle.vub_base.specs.Told.{Told}
 use Rattle.vub_proto.specs.declared.device_said.DeviceSaid.{DeviceSaid}
@@ -12,7 +12,7 @@ use Rattle.vub_model.specs.Work.{after_heard}
 use Rattle.vub_vring.specs.Calls.{IsCounted}
 use Rattle.vub_vring.specs.PartsState.{PartsState}
 use Rattle.vub_loop.specs.declared.turned.Turned.{Turned}
-use Rattle.vub_loop.specs.declared.turned.Turned.TheVariants.{Pass, Played, Failed}
+use Rattle.vub_loop.specs.declared.turned.Turned.TheVariants.{Played}
 use Rattle.vub_loop.specs.Handler.{phase_of}
 use Rattle.vub_loop.specs.Worker.{Worker}
 

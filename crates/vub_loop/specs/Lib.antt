@@ -2,6 +2,8 @@ pub mod Faults
 pub mod Finished
 pub mod Handler
 pub mod Hearing
+pub mod Listening
+pub mod Looping
 pub mod Phases
 pub mod Plays
 pub mod Polling

@@ -1,7 +1,7 @@
 -- In which phase a worker makes which step, whether or not its parts tell what they hold.
 use Rattle.std.specs.Prelude.{◌≡◌, ℕ, Bool, true, false, ◌⊎◌}
 use Rattle.vub_model.specs.declared.cause.StopCause.TheVariants.{Fault}
-use Rattle.vub_model.specs.declared.cause.VringEpollError.TheVariants.{EpollWait}
+use Rattle.vub_model.specs.declared.cause.VringEpollError.TheVariants.{EpollWait, HandleEventBackendHandling}
 use Rattle.vub_model.specs.declared.phase.Phase.{Phase}
 use Rattle.vub_model.specs.declared.phase.Phase.TheVariants.{Idle, Polled, Sweep, Heard, Serving, Taken, Served}
 use Rattle.vub_model.specs.declared.phase.Phase.TheVariants.{Stopped}
@@ -72,3 +72,28 @@ abbrev pub TurnedIn : Turned → Phase → Phase → Type 0
 TurnedIn turned.Pass before now = ((is_idle before ≡ true) ⊎ (is_stopped before ≡ true)) × (now ≡ before)
 TurnedIn (turned.Played l) before now = is_of l before ≡ true
 TurnedIn turned.Failed before now = (before ≡ Idle) × (now ≡ Stopped (Fault EpollWait))
+
+-- the worker has queues to serve
+abbrev pub has_queues : Phase → Bool
+has_queues (Serving queues) = true
+has_queues (Taken e queues) = true
+has_queues (Served e reply queues) = true
+has_queues phase = false
+
+-- Where serving leads: on with a list of queues, to an idle worker, or to one that stopped since it could not handle an
+-- event.
+abbrev pub ServesTo : Phase → Type 0
+ServesTo Idle = Unit {0}
+ServesTo (Serving queues) = Unit {0}
+ServesTo (Taken e queues) = Unit {0}
+ServesTo (Served e reply queues) = Unit {0}
+ServesTo (Stopped (Fault (HandleEventBackendHandling w))) = Unit {0}
+ServesTo phase = ⊥
+
+-- a step of a worker that has queues to serve leads there, if it was made
+abbrev pub ServedIn : Bool → Phase → Phase → Type 0
+ServedIn made before now = made ≡ true → ServesTo now
+
+-- and so does any number of them
+abbrev pub GoesOn : Phase → Phase → Type 0
+GoesOn before now = has_queues before ≡ true → ServesTo now

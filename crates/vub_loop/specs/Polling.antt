@@ -1,5 +1,5 @@
 -- What a poll of a worker came to.
-use Rattle.std.specs.Prelude.{◌≡◌, ℕ, true, false}
+use Rattle.std.specs.Prelude.{◌≡◌, ℕ, false}
 use Rattle.vub_model.specs.declared.cause.StopCause.TheVariants.{Fault}
 use Rattle.vub_model.specs.declared.cause.VringEpollError.TheVariants.{EpollWait}
 use Rattle.vub_model.specs.declared.phase.Phase.{Phase}

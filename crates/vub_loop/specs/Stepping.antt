@@ -1,5 +1,5 @@
 -- What a step of a worker says, and what it leaves of the worker and of its parts.
-use Rattle.std.specs.Prelude.{◌≡◌, ℕ, Bool, true, Option, None, Result, IfOk, IsOk, IfErr, OnErr}
+use Rattle.std.specs.Prelude.{◌≡◌, ℕ, Bool, true, None, Result, IfOk, IsOk, IfErr, OnErr}
 use Rattle.vub_proto.specs.declared.device_said.DeviceSaid.{DeviceSaid}
 use Rattle.vub_model.specs.declared.cause.VringEpollError.{VringEpollError}
 use Rattle.vub_model.specs.declared.cause.VringEpollError.TheVariants.{OutOfMemory}
@@ -20,7 +20,7 @@ use Rattle.vub_loop.specs.Faults.{Reads, Steps, PollSteps, TurnSteps, IsHostStop
 use Rattle.vub_loop.specs.Handler.{IsHandler, SameWorker, phase_of}
 use Rattle.vub_loop.specs.Hearing.{HasRefused}
 use Rattle.vub_loop.specs.Plays.{IsStep, Hears}
-use Rattle.vub_loop.specs.Polling.{PollingSteps, PollingLeast, PollingIn}
+use Rattle.vub_loop.specs.Polling.{PollingSteps, PollingLeast}
 use Rattle.vub_loop.specs.Sound.{IsSound}
 use Rattle.vub_loop.specs.Worker.{Worker}
 

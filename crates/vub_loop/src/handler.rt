@@ -1,21 +1,24 @@
-ghost use Rattle.std.specs.Prelude.{◌≡◌, ℕ, IfOk};
+ghost use Rattle.std.specs.Prelude.{◌≡◌, ℕ, IfOk, IfErr, None};
 ghost use Rattle.std.specs.Option.{ForSome};
 ghost use Rattle.vub_model.specs.Service.{meaning};
 ghost use Rattle.vub_model.specs.Wiring.{Wiring};
 ghost use Rattle.vub_model.specs.Work.{after_event};
 ghost use Rattle.vub_vring.specs.Calls.{telling};
-ghost use Rattle.vub_vring.specs.PartsState.{IsUntouched};
+ghost use Rattle.vub_vring.specs.PartsState.{IsUntouched, Tells};
+ghost use Rattle.vub_vring.specs.Worker.{exit_in, KeepsOpening, LeavesMade};
 ghost use Rattle.vub_loop.specs.Faults.{read_error};
 ghost use Rattle.vub_loop.specs.Finished.{finished_by, finished_in};
-ghost use Rattle.vub_loop.specs.Handler.{phase_of, IsHandler, IsNew, new_handler};
+ghost use Rattle.vub_loop.specs.Handler.{phase_of, IsHandler, IsNew, IsOpened, new_handler};
+ghost use Rattle.vub_loop.specs.Listening.{handle_of};
 ghost use Rattle.vub_loop.specs.Hearing.{HandledBy, HearsDevice, TurnsDevice};
-ghost use Rattle.vub_loop.specs.Phases.{is_polled, is_rung, is_heard, is_serving, is_taken, is_served, MadeIn, PolledIn, TurnedIn};
+ghost use Rattle.vub_loop.specs.Phases.{is_polled, is_rung, is_heard, is_serving, is_taken, is_served, GoesOn, MadeIn, PolledIn, ServedIn, TurnedIn};
 ghost use Rattle.vub_loop.specs.Polling.{PollingIn};
 ghost use Rattle.vub_loop.specs.Sound.{IsSound};
 ghost use Rattle.vub_loop.specs.Stepping.{OnPhases, StepsBy, PollsBy, PollingBy, HearsBy, HearingBy, TurnsBy, PollsLeastBy, PollingLeastBy, TurnsLeastBy, ReadsBy, UsesNone, StepFrame, SureFrame, HearFrame, TurnFrame, ReadFrame};
 
 use crate::finished::Finished;
-use crate::mask::queues_of_mask;
+use crate::listening::EpollHandle;
+use crate::mask::queues_of_worker;
 use crate::phases::{handled, queues_at, refusal, serving_of, serving_rest, stopped_by};
 use crate::polling::Polling;
 use crate::reading::{heard, kicked, rung};
@@ -28,7 +31,9 @@ use std::mem;
 use vub_base::{Listed, OutOfMemory};
 use vub_model::{Constants, Entry, Opened, Phase, Play, StopCause, VringEpollError, Why};
 use vub_proto::{DeviceOp, DeviceSaid};
-use vub_vring::{HostOp, Parts, PartsError, PendOp, PendSaid, PutSaid, TableRing, TableRingSaid};
+use vub_vring::{
+    HostOp, Parts, PartsError, PendOp, PendSaid, PutSaid, TableRing, TableRingSaid, open_worker,
+};
 
 /// A worker (`VringEpollHandler` of the Rust crate `vhost-user-backend`): the queues of its mask, and where it stands.
 ///
@@ -309,6 +314,7 @@ impl VringEpollHandler {
         ensures row { StepsBy (meaning P.Service.reply_of P.Service.after) Play.Take result
             self.old self.new (P.state parts.old) (P.state parts.new) }
         ensures phase { OnPhases (MadeIn is_serving) result self.old self.new }
+        ensures leads { OnPhases ServedIn result self.old self.new }
         ensures finished { UsesNone result self.new }
         ensures frame { StepFrame self.old self.new (P.state parts.old) (P.state parts.new) result }
     {
@@ -374,6 +380,7 @@ impl VringEpollHandler {
         ensures row { StepsBy (meaning P.Service.reply_of P.Service.after) Play.Serve result
             self.old self.new (P.state parts.old) (P.state parts.new) }
         ensures phase { OnPhases (MadeIn is_taken) result self.old self.new }
+        ensures leads { OnPhases ServedIn result self.old self.new }
         ensures finished { UsesNone result self.new }
         ensures frame { StepFrame self.old self.new (P.state parts.old) (P.state parts.new) result }
     {
@@ -408,6 +415,7 @@ impl VringEpollHandler {
         ensures row { StepsBy (meaning P.Service.reply_of P.Service.after) Play.Put result
             self.old self.new (P.state parts.old) (P.state parts.new) }
         ensures phase { OnPhases (MadeIn is_served) result self.old self.new }
+        ensures leads { OnPhases ServedIn result self.old self.new }
         ensures finished { OnPhases (λ made before now. self.new.finished ≡ finished_by Play.Put before now)
             result self.old self.new }
         ensures frame { StepFrame self.old self.new (P.state parts.old) (P.state parts.new) result }
@@ -451,6 +459,7 @@ impl VringEpollHandler {
             self.old self.new (P.state parts.old) (P.state parts.new) }
         ensures least { TurnsLeastBy result self.old (P.state parts.old) (P.state parts.new) }
         ensures phase { OnPhases TurnedIn result self.old self.new }
+        ensures leads { OnPhases (λ t before now. GoesOn before now) result self.old self.new }
         ensures finished { OnPhases (λ t before now. self.new.finished ≡ finished_in t before now)
             result self.old self.new }
         ensures device { TurnsDevice (telling P.Device.said P.Device.moved) self.old
@@ -495,6 +504,37 @@ impl VringEpollHandler {
         }
     }
 
+    /// What is needed to give this worker listeners and to end it.
+    pub fn epoll_handle(&self) -> EpollHandle
+        ensures { result ≡ handle_of self.now }
+    {
+        EpollHandle {
+            worker: self.opened.worker,
+            list: self.opened.list,
+            exit: self.opened.exit,
+            queues: self.count,
+        }
+    }
+
+    /// A worker that was opened, before its first step, with its queues of so many.
+    fn with_queues(opened: Opened, queues: Listed<u32>, count: usize) -> VringEpollHandler
+        ensures { result ≡ record {
+          opened = opened;
+          queues = queues;
+          count = count;
+          phase = Phase.Idle;
+          finished = None;
+        } }
+    {
+        VringEpollHandler {
+            opened,
+            queues,
+            count,
+            standing: Standing::new(Phase::Idle),
+            finished: None,
+        }
+    }
+
     /// A worker that was opened, before its first step, by what the device never changes.
     ///
     /// # Errors
@@ -506,18 +546,8 @@ impl VringEpollHandler {
     ) -> Result<VringEpollHandler, OutOfMemory>
         ensures { IfOk result (λ h. h ≡ new_handler constants.now opened) }
     {
-        let mask = match constants.masks.as_slice().get(opened.worker as usize) {
-            Some(mask) => *mask,
-            None => 0,
-        };
-        let queues = queues_of_mask(alloc, constants.queues, mask)?;
-        Ok(VringEpollHandler {
-            opened,
-            queues: Listed::from_vec(queues),
-            count: constants.queues,
-            standing: Standing::new(Phase::Idle),
-            finished: None,
-        })
+        let queues = queues_of_worker(alloc, constants, opened.worker)?;
+        Ok(VringEpollHandler::with_queues(opened, queues, constants.queues))
     }
 
     /// A worker that was opened, before its first step. The parts' device is asked for what it never changes.
@@ -536,5 +566,33 @@ impl VringEpollHandler {
     {
         let constants = parts.constants(alloc)?;
         VringEpollHandler::from_constants(alloc, &constants, opened)
+    }
+
+    /// Opens the worker of this number, as [`open_worker`] does, which stands before its first step then.
+    ///
+    /// # Errors
+    /// Those of [`open_worker`], which leave what it leaves.
+    pub fn new<P: Parts>(
+        alloc: Global,
+        parts: &mut P,
+        worker: u32,
+    ) -> Result<VringEpollHandler, VringEpollError>
+        ensures made { IfOk result (λ h. ForSome (P.state parts.old).constants
+            (λ told. IsOpened told worker h (P.state parts.old).shared (P.state parts.new).shared)) }
+        ensures new { IfOk result (λ h. IsNew h.opened h) }
+        ensures worker { IfOk result (λ h. h.opened.worker ≡ worker) }
+        ensures stopped { IfErr result (λ e. ForSome (P.state parts.old).constants
+            (λ told. Tells (P.state parts.old) (P.state parts.new)
+            (LeavesMade told.queues (exit_in told worker) e))) }
+        ensures frame { KeepsOpening (P.state parts.old) (P.state parts.new) result }
+    {
+        let Ok(constants) = parts.constants(alloc) else {
+            return Err(VringEpollError::OutOfMemory);
+        };
+        let Ok(queues) = queues_of_worker(alloc, &constants, worker) else {
+            return Err(VringEpollError::OutOfMemory);
+        };
+        let opened = open_worker(alloc, parts, worker)?;
+        Ok(VringEpollHandler::with_queues(opened, queues, constants.queues))
     }
 }

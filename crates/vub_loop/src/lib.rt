@@ -4,16 +4,19 @@
 
 mod finished;
 mod handler;
+mod listening;
 mod mask;
 mod phases;
 mod polling;
 mod reading;
+mod running;
 mod said;
 mod standing;
 mod turned;
 
 pub use finished::Finished;
 pub use handler::VringEpollHandler;
+pub use listening::{EpollHandle, ListenerFault};
 pub use turned::Turned;
 
 #[cfg(test)]

@@ -3,6 +3,7 @@ ghost use Rattle.vub_base.specs.Causes.{Rose};
 ghost use Rattle.vub_model.specs.Work.{after_heard, serving, stopped, queues_numbered, why_of};
 ghost use Rattle.vub_vring.specs.Calls.{IsCounted};
 ghost use Rattle.vub_loop.specs.Faults.{IsDeviceStop, IsHostStop};
+ghost use Rattle.vub_loop.specs.Phases.{ServesTo};
 ghost use Rattle.vub_loop.specs.Sound.{IsSound};
 
 use vub_model::{Phase, Queues, StopCause, VringEpollError, Why};
@@ -12,7 +13,8 @@ use vub_vring::Pending;
 
 /// The stop of a worker that could not handle an event.
 pub(crate) fn stopped_by(why: Why) -> Phase
-    ensures { result ≡ stopped why }
+    ensures same { result ≡ stopped why }
+    ensures leads { ServesTo result }
 {
     Phase::Stopped(StopCause::Fault(VringEpollError::HandleEventBackendHandling(why)))
 }
@@ -42,7 +44,8 @@ pub(crate) fn handled(said: &DeviceSaid) -> Phase
 
 /// Serving these queues, or idle where there is none.
 pub(crate) fn serving_of(queues: Queues) -> Phase
-    ensures { result ≡ serving queues }
+    ensures same { result ≡ serving queues }
+    ensures leads { ServesTo result }
 {
     if queues.is_empty() {
         Phase::Idle
@@ -53,7 +56,8 @@ pub(crate) fn serving_of(queues: Queues) -> Phase
 
 /// Serving these queues but for the first.
 pub(crate) fn serving_rest(queues: Queues) -> Phase
-    ensures { result ≡ serving (drop 1 queues) }
+    ensures same { result ≡ serving (drop 1 queues) }
+    ensures leads { ServesTo result }
 {
     let mut rest = queues;
     rest.drop_first();

@@ -1,8 +1,9 @@
 ghost use Rattle.std.specs.Prelude.{[], None};
 
-use crate::{Turned, VringEpollHandler};
+use crate::{ListenerFault, Turned, VringEpollHandler};
 use std::alloc::Global;
 use std::process::Abort;
+use std::sync::Wait;
 use std::test::Fail;
 use vub_base::{Bytes, Listed, OutOfMemory};
 use vub_event::{EventSet, Host, HostError, MemHost, Ready};
@@ -10,7 +11,7 @@ use vub_mem::GuestMemory;
 use vub_model::{
     Constants, Entry, Opened, Phase, Play, RingOp, RingSaid, StopCause, TableOp, VringEpollError,
 };
-use vub_proto::{DeviceOp, DeviceSaid, FixedDevice, Service};
+use vub_proto::{DeviceOp, DeviceSaid, FixedDevice, ListenerError, Service};
 use vub_queue::{Chain, Segments};
 use vub_vring::{
     HostOp, HostSaid, KickSaid, OwnedParts, Parts, PartsError, PendOp, PendSaid, Pending, PutSaid,
@@ -143,10 +144,15 @@ impl Parts for Silent {
 
 /// One queue, one worker.
 fn one_worker(alloc: Global) -> Result<Constants, OutOfMemory> {
+    one_worker_with(alloc, None)
+}
+
+/// One queue, one worker with this exit object.
+fn one_worker_with(alloc: Global, exit: Option<u32>) -> Result<Constants, OutOfMemory> {
     let mut masks = Listed::new(alloc);
     masks.push(1)?;
     let mut exits = Listed::new(alloc);
-    exits.push(None)?;
+    exits.push(exit)?;
     Ok(Constants {
         queues: 1,
         max: 256,
@@ -412,4 +418,72 @@ fn a_poll_that_fails_stops_the_worker(rt: HostRuntime) -> Result<(), Fail> {
     assert_eq!(rt; stopped, Some(StopCause::Fault(VringEpollError::EpollWait)));
     assert_eq!(rt; store.host.faults(), 1);
     Ok(())
+}
+
+#[test]
+fn all_entries_are_served_in_one_call(rt: HostRuntime) -> Result<(), Fail> {
+    let alloc = rt.alloc();
+    let mut parts = with_report(alloc, report(7, 0), 3)?;
+    let mut worker = after(&rt, alloc, &mut parts, &[Came::Poll(7), Came::Event])?;
+    worker.handle_event(&rt, alloc, &mut parts)?;
+    assert!(rt; matches!(worker.phase(), Phase::Idle));
+    assert_eq!(rt; parts.left, 0);
+    Ok(())
+}
+
+/// A host with an exit object, 0, and an event for a listener, 1.
+fn host_with_events(alloc: Global) -> Result<MemHost, HostError> {
+    let mut host = MemHost::new(alloc);
+    let _exit = host.create_event(alloc, 0)?;
+    let _event = host.create_event(alloc, 0)?;
+    Ok(host)
+}
+
+/// Adds the listener under these tokens, takes it off again, and lets the worker run until it is told to end.
+fn listen_and_end<R: Wait + Abort, P: Parts>(
+    rt: &R,
+    alloc: Global,
+    worker: &mut VringEpollHandler,
+    parts: &mut P,
+) -> Result<(), Fail> {
+    let added = [
+        (1, Err(ListenerFault::Listener(ListenerError::EINVAL))),
+        (2, Ok(())),
+        (
+            3,
+            Err(ListenerFault::Listener(ListenerError::AlreadyExists)),
+        ),
+    ];
+    for (token, answer) in added {
+        let said = worker.register_listener(alloc, parts, 1, EventSet::IN, token);
+        assert_eq!(rt; said, answer);
+    }
+    let taken_off = [
+        Ok(()),
+        Err(ListenerFault::Listener(ListenerError::NotFound)),
+    ];
+    for answer in taken_off {
+        let said = worker.unregister_listener(alloc, parts, 1, EventSet::IN, 2);
+        assert_eq!(rt; said, answer);
+    }
+    worker.send_exit_event(alloc, parts);
+    worker.run(rt, alloc, parts)?;
+    Ok(())
+}
+
+#[test]
+fn a_worker_is_opened_and_runs_to_its_end(rt: HostRuntime) -> Result<(), Fail> {
+    let alloc = rt.alloc();
+    let mut store = store_over(alloc, host_with_events(alloc)?)?;
+    let constants = one_worker_with(alloc, Some(0))?;
+    let mut device = one_queue(alloc)?;
+    let mut service = Quiet {};
+    let mut parts = OwnedParts {
+        store: &mut store,
+        device: &mut device,
+        service: &mut service,
+        constants: &constants,
+    };
+    let mut worker = VringEpollHandler::new(alloc, &mut parts, 0)?;
+    listen_and_end(&rt, alloc, &mut worker, &mut parts)
 }
