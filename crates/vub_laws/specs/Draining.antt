@@ -25,6 +25,7 @@ use Rattle.vub_model.specs.World.{World, phase_at}
 use Rattle.vub_model.specs.RunOf.{party_of, EachTurn}
 use Rattle.vub_model.specs.Running.{index_word}
 use Rattle.vub_laws.specs.EntriesLeft.{entries_left}
+use Rattle.vub_laws.specs.Stretches.{world_after, world_at, stretch}
 
 -- Events left
 
@@ -152,5 +153,14 @@ abbrev pub AreDone : {V : Type 0} → World V → Type 0
 AreDone w = (w.guest ≡ []) × (w.control.plan.steps ≡ [])
 
 -- Where guest and control are done, and while the index words stay, as many steps follow as the measure says, at most.
-abbrev pub IsDraining : {V : Type 0} → Meaning V → List ℕ → List Play → World V → World V → Type 0
-IsDraining m turns plays w z = AreDone w → WordsStay m turns plays w → steps turns plays + measure z ≤ measure w
+abbrev pub IsDraining : {V : Type 0} → Meaning V → List ℕ → List Play → World V → Type 0
+IsDraining m turns plays w =
+    AreDone w → WordsStay m turns plays w → steps turns plays + measure (world_after m turns plays w) ≤ measure w
+
+-- In a run each step of a worker that leaves the index words lowers the measure; and from each place at which guest and
+-- control are done to any later one, while the index words stay, there are as many steps as it says, at most.
+pub record Drains {V : Type 0} (m : Meaning V) (schedule : List ℕ) (plays : List Play) (opening : World V) : Type 0 where
+  pub lowers : EachTurn LowersMeasure m schedule plays opening
+  pub ends :
+      (place count : ℕ) →
+      IsDraining m (stretch place count schedule) (stretch place count plays) (world_at m schedule plays opening place)
