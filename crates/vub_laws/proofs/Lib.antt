@@ -1,7 +1,11 @@
+pub mod Agreeing
+pub mod Alike
 pub mod DrainRuns
 pub mod Drains
 pub mod EntriesLeft
 pub mod EventsLeft
 pub mod Plain
+pub mod Stores
 pub mod Stretches
 pub mod Sums
+pub mod Taking

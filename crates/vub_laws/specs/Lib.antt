@@ -1,3 +1,4 @@
+pub mod Alone
 pub mod Draining
 pub mod EntriesLeft
 pub mod Stretches
