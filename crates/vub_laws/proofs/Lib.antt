@@ -4,7 +4,9 @@ pub mod DrainRuns
 pub mod Drains
 pub mod EntriesLeft
 pub mod EventsLeft
+pub mod Own
 pub mod Plain
+pub mod Quiet
 pub mod Stores
 pub mod Stretches
 pub mod Sums
