@@ -20,14 +20,14 @@ use Rattle.vub_model.proofs.OpeningSound.{opening-sound}
 use Rattle.vub_model.proofs.Owners.{within-phases}
 use Rattle.vub_model.proofs.Sound.{IsSound, sound-turn}
 use Rattle.vub_model.proofs.Turns.{turn-cases}
-use Rattle.vub_laws.specs.Draining.{measure, IsPlain, is_step, steps, SameWords, LowersMeasure, WordsStay, AreDone, IsDraining, Drains}
+use Rattle.vub_laws.specs.Draining.{measure, IsPlain, is_step, steps, SameWords, LowersMeasure, WordsStay, AreDone, IsDraining, Drains, StaysPlain}
 use Rattle.vub_laws.specs.Stretches.{world_after, world_at}
 use Rattle.vub_laws.proofs.Drains.{drains}
 use Rattle.vub_laws.proofs.Plain.{plain-turn, opening-plain}
 use Rattle.vub_laws.proofs.Stretches.{run-next, run-later, run-first, each-later, each-first}
 
 -- what is known wherever a run comes to
-pub record IsOrderly {V : Type 0} (more : ℕ) (w : World V) : Type 0 where
+pub record Goes {V : Type 0} (more : ℕ) (w : World V) : Type 0 where
   pub sound : IsSound more w
   pub plain : IsPlain w.wiring w.shared.table
 
@@ -37,7 +37,7 @@ pass-none party.Control = refl
 pass-none (party.Worker j) = refl
 
 module _ {V : Type 0} (m : Meaning V) where
-  lowers-step : (n : ℕ) (w : World V) (o : IsOrderly (suc n) w) (p : Party) (l : Play) → May w p l → LowersMeasure w p l (after m w p l)
+  lowers-step : (n : ℕ) (w : World V) (o : Goes (suc n) w) (p : Party) (l : Play) → May w p l → LowersMeasure w p l (after m w p l)
   lowers-step n w o (party.Worker j) l may one words =
       let i = o.sound.invariant in
       let within = within-phases w.wiring w.shared w.phases j l may in
@@ -46,17 +46,24 @@ module _ {V : Type 0} (m : Meaning V) where
   lowers-step n w o party.Guest l may one words = absurd (omega (arith, one))
   lowers-step n w o party.Control l may one words = absurd (omega (arith, one))
 
-  lowers-turn : (n : ℕ) (w : World V) (p : Party) (l : Play) (z : World V) → IsOrderly (suc n) w → Turn m w p l z → LowersMeasure w p l z
+  lowers-turn : (n : ℕ) (w : World V) (p : Party) (l : Play) (z : World V) → Goes (suc n) w → Turn m w p l z → LowersMeasure w p l z
   lowers-turn n w p l z o turn =
       turn-cases m w p z (λ l. LowersMeasure w p l z)
       (λ same one. absurd (let none = pass-none p in omega (arith, one, none)))
       (λ l may is. let K : World V → Type 0 = λ x. LowersMeasure w p l x in subst K (sym is) (lowers-step n w o p l may)) l turn
 
-  -- at each turn of a run from an orderly world
-  pub each-lowers : (turns : List ℕ) (plays : List Play) (w z : World V) → IsOrderly (length turns) w → IsRun m turns plays w z → EachTurn LowersMeasure m turns plays w
+  -- at each turn of a run from a world like the opening
+  pub each-lowers : (turns : List ℕ) (plays : List Play) (w z : World V) → Goes (length turns) w → IsRun m turns plays w z → EachTurn LowersMeasure m turns plays w
   each-lowers turns plays w z o run =
-      (each-turn m (λ n x. IsOrderly n x) LowersMeasure
+      (each-turn m (λ n x. Goes n x) LowersMeasure
       (λ n w p l z o turn. (lowers-turn n w p l z o turn, record { sound = sound-turn m n w p l z o.sound turn; plain = plain-turn m w p l z turn o.plain }))
+      turns plays w z o run).0
+
+  -- and leaves the events plain
+  pub each-plain : (turns : List ℕ) (plays : List Play) (w z : World V) → Goes (length turns) w → IsRun m turns plays w z → EachTurn StaysPlain m turns plays w
+  each-plain turns plays w z o run =
+      (each-turn m (λ n x. Goes n x) StaysPlain
+      (λ n w p l z o turn. let plain = plain-turn m w p l z turn o.plain in (plain, record { sound = sound-turn m n w p l z o.sound turn; plain = plain }))
       turns plays w z o run).0
 
   -- a turn where guest and control are done
@@ -85,8 +92,8 @@ module _ {V : Type 0} (m : Meaning V) where
       let first = one.falls in
       omega (arith, first, rest)
 
-  -- from an orderly world
-  pub drains-run : (turns : List ℕ) (plays : List Play) (w z : World V) → IsOrderly (length turns) w → IsRun m turns plays w z → Drains m turns plays w
+  -- from a world like the opening
+  pub drains-run : (turns : List ℕ) (plays : List Play) (w z : World V) → Goes (length turns) w → IsRun m turns plays w z → Drains m turns plays w
   drains-run turns plays w z o run =
       let lowers = each-lowers turns plays w z o run in
       record {
@@ -99,6 +106,6 @@ module _ {V : Type 0} (m : Meaning V) where
             (each-first m LowersMeasure count (drop place turns) (drop place plays) mid (each-later m LowersMeasure place turns plays w lowers));
       }
 
--- the opening of a valid set-up is orderly
-pub opening-orderly : {V : Type 0} (constants : Constants) (setup : Setup) (v : V) → IsValid constants setup → (more : ℕ) → more < limit → IsOrderly more (opening constants setup v)
-opening-orderly constants setup v valid more short = record { sound = opening-sound constants setup v valid more short; plain = opening-plain constants setup v }
+-- of the opening of a valid set-up too
+pub opening-goes : {V : Type 0} (constants : Constants) (setup : Setup) (v : V) → IsValid constants setup → (more : ℕ) → more < limit → Goes more (opening constants setup v)
+opening-goes constants setup v valid more short = record { sound = opening-sound constants setup v valid more short; plain = opening-plain constants setup v }

@@ -4,6 +4,8 @@ pub mod DrainRuns
 pub mod Drains
 pub mod EntriesLeft
 pub mod EventsLeft
+pub mod Independent
+pub mod Orderly
 pub mod Own
 pub mod Plain
 pub mod Quiet
@@ -11,3 +13,4 @@ pub mod Stores
 pub mod Stretches
 pub mod Sums
 pub mod Taking
+pub mod Uses

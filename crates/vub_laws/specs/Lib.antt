@@ -1,4 +1,5 @@
 pub mod Alone
 pub mod Draining
 pub mod EntriesLeft
+pub mod Orderly
 pub mod Stretches

@@ -1,10 +1,6 @@
-//! Two laws over whole runs of the machine: work drains, and an undisturbed queue is served as alone.
+//! Laws over whole runs of the machine: work drains, and a queue that nothing disturbs is served as alone.
 #![tactic(auto)]
-ghost use Rattle.std.specs.Prelude.{◌≡◌};
 
-/// Nothing.
-pub fn one() -> u32
-    ensures { result ≡ 1 }
-{
-    1
-}
+mod laws;
+
+pub use laws::{runs_are_orderly, schedules_agree};

@@ -1,0 +1,15 @@
+//! Laws of whole runs: each of these calls does nothing, and its contract is the law.
+ghost use Rattle.vub_laws.specs.Orderly.{RunsAreOrderly, SchedulesAgree};
+
+/// Every run of a valid set-up with fewer turns than the limit on takes is orderly. Each step of a worker that leaves
+/// the available index words lowers the measure, so that no more steps follow than it says once guest and control are
+/// done; and each stretch of the run serves each queue that nothing disturbs as if it were served alone.
+pub fn runs_are_orderly<V>()
+    ensures { RunsAreOrderly V }
+{}
+
+/// Two runs that begin with the same memory and ring, and serve a queue as alone and to its end, use the same entries
+/// with the same replies and write the same bytes at the same places, whatever their schedules.
+pub fn schedules_agree<V>()
+    ensures { SchedulesAgree V }
+{}
