@@ -1,5 +1,6 @@
 pub mod Agreeing
 pub mod Alike
+pub mod Disjoint
 pub mod DrainRuns
 pub mod Drains
 pub mod EntriesLeft

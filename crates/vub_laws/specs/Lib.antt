@@ -3,3 +3,4 @@ pub mod Draining
 pub mod EntriesLeft
 pub mod Orderly
 pub mod Stretches
+pub mod Touched

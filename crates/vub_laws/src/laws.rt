@@ -1,5 +1,6 @@
 //! Laws of whole runs: each of these calls does nothing, and its contract is the law.
 ghost use Rattle.vub_laws.specs.Orderly.{RunsAreOrderly, SchedulesAgree};
+ghost use Rattle.vub_laws.specs.Touched.{ApartQueuesAreUndisturbed};
 
 /// Every run of a valid set-up with fewer turns than the limit on takes is orderly. Each step of a worker that leaves
 /// the available index words lowers the measure, so that no more steps follow than it says once guest and control are
@@ -12,4 +13,10 @@ pub fn runs_are_orderly<V>()
 /// with the same replies and write the same bytes at the same places, whatever their schedules.
 pub fn schedules_agree<V>()
     ensures { SchedulesAgree V }
+{}
+
+/// Where different queues touch different bytes, and the guest stores none of them, no take of a queue reads a byte
+/// that the guest or a step for another queue wrote.
+pub fn apart_queues_are_undisturbed<V>()
+    ensures { ApartQueuesAreUndisturbed V }
 {}

@@ -3,4 +3,4 @@
 
 mod laws;
 
-pub use laws::{runs_are_orderly, schedules_agree};
+pub use laws::{apart_queues_are_undisturbed, runs_are_orderly, schedules_agree};
