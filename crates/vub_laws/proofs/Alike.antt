@@ -1,9 +1,7 @@
 -- Rings that differ in events, flags and flight alone are served alike.
-use Rattle.std.proofs.Common.{◌≡◌, ℕ, Bool, List, Result, refl, sym, ap, ◌∙◌}
-use Rattle.std.specs.Int.{w16}
+use Rattle.std.proofs.Common.{◌≡◌, ℕ, Bool, List, refl, sym, ap, ◌∙◌}
 use Rattle.vub_mem.specs.declared.region.Region.{Region}
 use Rattle.vub_mem.specs.Memory.{Guest}
-use Rattle.vub_mem.specs.Place.{number_at}
 use Rattle.vub_queue.specs.Function.{took_of, look_of}
 use Rattle.vub_queue.specs.Layout.{avail_index_at}
 use Rattle.vub_queue.specs.Notification.{used_event_covers}
@@ -14,7 +12,7 @@ use Rattle.vub_model.specs.declared.entry.Entry.{Entry}
 use Rattle.vub_model.specs.declared.ring_op.RingOp.TheVariants as op
 use Rattle.vub_model.specs.RingRecord.{Vring, changed}
 use Rattle.vub_model.specs.Work.{entry_of}
-use Rattle.vub_laws.specs.Alone.{serving_of, Placing, placing}
+use Rattle.vub_laws.specs.Alone.{serving_of, placing}
 use Rattle.vub_laws.specs.EntriesLeft.{entries_left}
 
 abbrev pub Alike : Vring → Vring → Type 0

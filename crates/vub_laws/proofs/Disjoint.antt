@@ -1,5 +1,5 @@
 -- Where the bytes that different queues touch are disjoint, no take reads a byte that another wrote.
-use Rattle.std.proofs.Common.{◌≡◌, ◌≢◌, ℕ, Bool, true, false, cond, inl, inr, ◌⊎◌, List, [], ◌∷◌, ◌++◌, refl, sym, ap, subst}
+use Rattle.std.proofs.Common.{◌≡◌, ◌≢◌, ℕ, Bool, true, false, cond, inl, inr, ◌⊎◌, List, [], ◌∷◌, ◌++◌, refl, sym, subst}
 use Rattle.std.proofs.lemmas.Bool.{eq-eqb}
 use Rattle.vub_model.specs.declared.party.Party.{Party}
 use Rattle.vub_model.specs.declared.party.Party.TheVariants as party
@@ -14,7 +14,7 @@ use Rattle.vub_model.specs.Shared.{Shared}
 use Rattle.vub_model.specs.World.{World, phase_at, written_by}
 use Rattle.vub_model.specs.Written.{Spot}
 use Rattle.vub_laws.specs.Alone.{read_by, is_of, read_at, wrote_at, taken_bytes, others_bytes}
-use Rattle.vub_laws.specs.Touched.{tested_by, touched_at, touched, guest_wrote, guest_bytes, AreApart, ApartQueuesAreUndisturbed}
+use Rattle.vub_laws.specs.Touched.{tested_by, touched_at, touched, guest_wrote, guest_bytes, ApartQueuesAreUndisturbed}
 use Rattle.vub_laws.proofs.Agreeing.{spot-left, spot-right}
 
 spot-cases : (xs ys : List Spot) (o i : ℕ) → IsSpot (xs ++ ys) o i → IsSpot xs o i ⊎ IsSpot ys o i
@@ -41,9 +41,11 @@ module _ {V : Type 0} (m : Meaning V) (q o i : ℕ) where
   wrote-worker w k l false of is =
       let phase = phase_at w.phases k in
       let who = writer w.shared o i l phase is in
-      let T : Bool → Type 0 = λ b. IsSpot (cond b (read_by w.shared l phase ++ (written_by w.shared l phase ++ tested_by w.shared l phase)) []) o i in
-      (who.0, (λ same. let here : is_of l phase q ≡ true = (let P : ℕ → Type 0 = λ x. is_of l phase x ≡ true in subst P same who.1) in absurd cc),
-      subst T (sym who.1) (spot-right (read_by w.shared l phase) _ o i (spot-left (written_by w.shared l phase) (tested_by w.shared l phase) o i is)))
+      let T : Bool → Type 0 = λ b. IsSpot (cond b (read_by w.shared l phase ++ (written_by w.shared l phase ++ tested_by w.shared l phase)) []) o i in (
+        who.0,
+        (λ same. let here : is_of l phase q ≡ true = (let P : ℕ → Type 0 = λ x. is_of l phase x ≡ true in subst P same who.1) in absurd cc),
+        subst T (sym who.1) (spot-right (read_by w.shared l phase) _ o i (spot-left (written_by w.shared l phase) (tested_by w.shared l phase) o i is)),
+      )
 
   wrote-one : (w : World V) (p : Party) (l : Play) → IsSpot (wrote_at w q p l) o i → OtherAt w p l
   wrote-one w (party.Worker k) l is = inr (wrote-worker w k l (is_of l (phase_at w.phases k) q) refl is)

@@ -1,5 +1,5 @@
 -- In every run of a valid set-up work drains.
-use Rattle.std.proofs.Common.{◌≡◌, ℕ, zero, suc, ◌+◌, ◌<◌, ◌≤◌, List, [], ◌∷◌, length, take, drop, refl, sym, ap, subst, arith}
+use Rattle.std.proofs.Common.{◌≡◌, ℕ, suc, ◌+◌, ◌<◌, ◌≤◌, List, [], ◌∷◌, length, take, drop, slice_set, refl, sym, subst, arith}
 use Rattle.vub_model.specs.declared.constants.Constants.{Constants}
 use Rattle.vub_model.specs.declared.party.Party.{Party}
 use Rattle.vub_model.specs.declared.party.Party.TheVariants as party
@@ -13,15 +13,18 @@ use Rattle.vub_model.specs.RingRecord.{limit}
 use Rattle.vub_model.specs.RunOf.{party_of, Turn, IsRun, EachTurn, next}
 use Rattle.vub_model.specs.Service.{Meaning}
 use Rattle.vub_model.specs.ValidSetup.{IsValid}
-use Rattle.vub_model.specs.Work.{MayWork}
+use Rattle.vub_model.specs.Shared.{Shared}
+use Rattle.vub_model.specs.Wiring.{Wiring}
+use Rattle.vub_model.specs.Work.{Local, MayWork, after_work}
+use Rattle.vub_model.specs.declared.phase.Phase.{Phase}
 use Rattle.vub_model.specs.World.{World, May, after, phase_at}
 use Rattle.vub_model.proofs.EachTurns.{each-turn}
 use Rattle.vub_model.proofs.OpeningSound.{opening-sound}
 use Rattle.vub_model.proofs.Owners.{within-phases}
 use Rattle.vub_model.proofs.Sound.{IsSound, sound-turn}
 use Rattle.vub_model.proofs.Turns.{turn-cases}
-use Rattle.vub_laws.specs.Draining.{measure, IsPlain, is_step, steps, SameWords, LowersMeasure, WordsStay, AreDone, IsDraining, Drains, StaysPlain}
-use Rattle.vub_laws.specs.Stretches.{world_after, world_at}
+use Rattle.vub_laws.specs.Draining.{measure, IsPlain, is_step, SameWords, LowersMeasure, AreDone, IsDraining, Drains, EventsArePlain, StepLowers}
+use Rattle.vub_laws.specs.Stretches.{world_at}
 use Rattle.vub_laws.proofs.Drains.{drains}
 use Rattle.vub_laws.proofs.Plain.{plain-turn, opening-plain}
 use Rattle.vub_laws.proofs.Stretches.{run-next, run-later, run-first, each-later, each-first}
@@ -60,11 +63,14 @@ module _ {V : Type 0} (m : Meaning V) where
       turns plays w z o run).0
 
   -- and leaves the events plain
-  pub each-plain : (turns : List ℕ) (plays : List Play) (w z : World V) → Goes (length turns) w → IsRun m turns plays w z → EachTurn StaysPlain m turns plays w
-  each-plain turns plays w z o run =
-      (each-turn m (λ n x. Goes n x) StaysPlain
-      (λ n w p l z o turn. let plain = plain-turn m w p l z turn o.plain in (plain, record { sound = sound-turn m n w p l z o.sound turn; plain = plain }))
-      turns plays w z o run).0
+  pub plain-run : (turns : List ℕ) (plays : List Play) (w z : World V) → Goes (length turns) w → IsRun m turns plays w z → EventsArePlain m turns plays w
+  plain-run turns plays w z o run = record {
+    first = o.plain;
+    later =
+        (each-turn m (λ n x. Goes n x) (λ w p l z. IsPlain z.wiring z.shared.table)
+        (λ n w p l z o turn. let plain = plain-turn m w p l z turn o.plain in (plain, record { sound = sound-turn m n w p l z o.sound turn; plain = plain }))
+        turns plays w z o run).0;
+  }
 
   -- a turn where guest and control are done
   record Falls (w : World V) (p : Party) (l : Play) (z : World V) : Type 0 where
@@ -109,3 +115,16 @@ module _ {V : Type 0} (m : Meaning V) where
 -- of the opening of a valid set-up too
 pub opening-goes : {V : Type 0} (constants : Constants) (setup : Setup) (v : V) → IsValid constants setup → (more : ℕ) → more < limit → Goes more (opening constants setup v)
 opening-goes constants setup v valid more short = record { sound = opening-sound constants setup v valid more short; plain = opening-plain constants setup v }
+
+-- A worker's step lowers the measure, as it is told of the worker alone.
+pub step-lowers : {V : Type 0} (m : Meaning V) (g : Wiring) (k : ℕ) (old : Shared V) (before : Phase) (l : Play) (z : Local V) → MayWork g k old before l → z ≡ after_work m g k old before l → StepLowers g k before old z.phase z.shared
+step-lowers {V} m g k old before l z may is w calm wired same stands i plain words =
+    let G : Wiring → Shared V → Phase → Local V → Type 0 = λ g old before z. MayWork g k old before l → IsPlain g old.table → SameWords w (record w { shared = z.shared }) → measure (record w { shared = z.shared; phases = slice_set w.phases k z.phase }) < measure w in
+    let here : G w.wiring w.shared (phase_at w.phases k) (after_work m w.wiring k w.shared (phase_at w.phases k) l) = λ may plain words.
+    let within = within-phases w.wiring w.shared w.phases k l may in
+    let less = drains m w calm i plain k (let sized = i.phases_size in omega (arith, within, sized)) l may words in
+    omega (arith, less) in
+    let one : G g w.shared (phase_at w.phases k) (after_work m g k w.shared (phase_at w.phases k) l) = subst (λ x. G x w.shared (phase_at w.phases k) (after_work m x k w.shared (phase_at w.phases k) l)) wired here in
+    let two : G g old (phase_at w.phases k) (after_work m g k old (phase_at w.phases k) l) = subst (λ x. G g x (phase_at w.phases k) (after_work m g k x (phase_at w.phases k) l)) same one in
+    let three : G g old before (after_work m g k old before l) = subst (λ x. G g old x (after_work m g k old x l)) stands two in
+    (subst (λ x. G g old before x) (sym is) three) may plain words

@@ -1,21 +1,15 @@
 -- A step of a worker that leaves the available index words lowers the measure.
-use Rattle.std.proofs.Common.{◌≡◌, ◌≢◌, ℕ, zero, suc, ◌+◌, ◌-◌, ◌*◌, ◌<◌, ◌≤◌, Bool, true, false, cond, ◌&&◌, ◌||◌, ◌==◌, nat_lt, eqb, inl, inr, ◌⊎◌, Option, Some, None, is_some, List, [], ◌∷◌, length, map, filter, find, slice_index, slice_index_or, slice_set, unwrap_or, Result, Ok, Err, refl, sym, ap, ap₂, ◌∙◌, subst, arith}
+use Rattle.std.proofs.Common.{◌≡◌, ◌≢◌, ℕ, suc, ◌+◌, ◌*◌, ◌<◌, ◌≤◌, Bool, true, false, cond, nat_lt, eqb, inl, inr, ◌⊎◌, Option, Some, None, is_some, List, [], ◌∷◌, length, map, filter, slice_index, slice_set, Result, Ok, Err, refl, sym, ap, ◌∙◌, subst, arith}
 use Rattle.std.specs.Prelude.{sum_by}
-use Rattle.std.specs.Int.{w16}
-use Rattle.std.specs.List.{AllByRecursion, list_any, range_with_len}
-use Rattle.std.proofs.lemmas.Bool.{cases_Bool, cond_both, cases_eq, cases_lt, eqb-true, eq-eqb, ne_eqb, lt-ltb, le-ltb, ltb-true, ltb-false}
+use Rattle.std.specs.List.{AllByRecursion, range_with_len}
+use Rattle.std.proofs.lemmas.Bool.{cond_both, eqb-true, eq-eqb, ltb-true, ltb-false}
 use Rattle.std.proofs.Math.Nat.{mul-le-mul_left}
-use Rattle.std.proofs.lemmas.List.{get_or-set_same, get_or-set_other, get_or_past, set_past, length-set, length-map}
-use Rattle.vub_mem.specs.declared.region.Region.{Region}
-use Rattle.vub_mem.specs.Place.{covers, number_at}
-use Rattle.vub_queue.specs.declared.addresses.Addresses.{Addresses}
+use Rattle.std.proofs.lemmas.List.{get_or-set_same, get_or-set_other}
 use Rattle.vub_queue.specs.declared.chain.Chain.{Chain}
 use Rattle.vub_queue.specs.declared.putting.PutFault.{PutFault}
 use Rattle.vub_queue.specs.declared.took.Took.TheVariants as took
-use Rattle.vub_queue.specs.EntryNumber.{minus}
-use Rattle.vub_event.specs.declared.event.Event.{Event}
 use Rattle.vub_event.specs.declared.member.Member.{Member}
-use Rattle.vub_event.specs.HostTable.{HostTable, event_at, members_at}
+use Rattle.vub_event.specs.HostTable.{members_at}
 use Rattle.vub_proto.specs.declared.device_said.DeviceSaid.{DeviceSaid}
 use Rattle.vub_event.specs.InterestList.{member_of}
 use Rattle.vub_model.specs.declared.cause.StopCause.TheVariants.{Exit}
@@ -27,30 +21,30 @@ use Rattle.vub_model.specs.declared.phase.Phase.{Phase}
 use Rattle.vub_model.specs.declared.phase.Phase.TheVariants.{Idle, Polled, Sweep, Heard, Serving, Taken, Served, Stopped}
 use Rattle.vub_model.specs.declared.wiring.Place.{Place}
 use Rattle.vub_model.specs.declared.ring_op.RingOp.TheVariants as op
-use Rattle.vub_model.specs.RingRecord.{Vring, closed_ring, is_on, has_addresses, changed, ring_after}
-use Rattle.vub_model.specs.Frame.{Frame, frame_of, known_of}
-use Rattle.vub_model.specs.Shared.{Shared, ring_at, count_at, pending_at, counter_read, swept, raised_or_none}
+use Rattle.vub_model.specs.RingRecord.{Vring, is_on, has_addresses, changed, ring_after}
+use Rattle.vub_model.specs.Frame.{Frame, frame_of}
+use Rattle.vub_model.specs.Shared.{Shared, ring_at, count_at, pending_at, counter_read}
 use Rattle.vub_model.specs.Service.{Meaning}
 use Rattle.vub_model.specs.Wiring.{Wiring, opened_at, queues_of, place_of, IsPlaced, HasWorker}
 use Rattle.vub_model.specs.Work.{Local, MayWork, after_work, after_event, after_kick, after_bell, after_listener, after_none, after_said, after_take, after_took, serving, queues_numbered, is_object, has_token, put_said, looked, used, called}
 use Rattle.vub_model.specs.World.{World, phase_at, after}
 use Rattle.vub_model.specs.Running.{index_word, HasStopped}
-use Rattle.vub_model.specs.Schedule.{is_member, list_at, IsKick, IsBellOrExit, IsOwn, IsNumber, PhaseFits, Invariant}
-use Rattle.vub_model.proofs.Cases.{work-cases, token-leaf, heard-leaf, take-leaf, none-leaf, said-cases}
-use Rattle.vub_model.proofs.Counting.{ring-other, ring-own, field-kept, frame-read, frame-raised}
+use Rattle.vub_model.specs.Schedule.{list_at, IsOwn, PhaseFits, Invariant}
+use Rattle.vub_model.proofs.Cases.{work-cases, token-leaf, heard-leaf, take-leaf, none-leaf}
+use Rattle.vub_model.proofs.Counting.{ring-other, ring-own, field-kept, frame-read}
 use Rattle.vub_model.proofs.Waking.{called-ring, called-pending}
 use Rattle.vub_model.proofs.Fitting.{swept-own}
 use Rattle.vub_model.proofs.FlowSteps.{on-within}
 use Rattle.vub_model.proofs.Live.{looked-live, live-parts, live-taken}
 use Rattle.vub_model.proofs.Others.{same-pending, same-number}
-use Rattle.vub_model.proofs.Owners.{one-worker, within-phases}
+use Rattle.vub_model.proofs.Owners.{within-phases}
 use Rattle.vub_model.proofs.Places.{slot, few-queues, one-queue}
-use Rattle.vub_model.proofs.SchedWork.{object-is, kick-ring}
+use Rattle.vub_model.proofs.SchedWork.{kick-ring}
 use Rattle.vub_model.proofs.Shapes.{Shape, shape}
-use Rattle.vub_laws.specs.Draining.{events_in, events_left, polled_off, is_place_of, all_entries_left, weight, phase_left, work_left, measure, IsPlain, is_semaphore}
+use Rattle.vub_laws.specs.Draining.{events_in, events_left, polled_off, is_place_of, all_entries_left, phase_left, work_left, measure, IsPlain}
 use Rattle.vub_laws.specs.EntriesLeft.{entries_left as left_by}
 use Rattle.vub_laws.proofs.EntriesLeft.{left_at, entries-same, entry-left, took-here}
-use Rattle.vub_laws.proofs.EventsLeft.{Bare, read-events, raised-events, read-falls, token-falls, undone, stale-same, zero-same, poll-falls, bare-same, Polls, polls}
+use Rattle.vub_laws.proofs.EventsLeft.{Bare, read-events, raised-events, read-falls, token-falls, undone, stale-same, zero-same, poll-falls, bare-same, polls}
 use Rattle.vub_laws.proofs.Sums.{sum-le, sum-falls, sum-pays, times-less}
 
 -- what a worker has left, whatever its phase
@@ -129,10 +123,13 @@ module _ {V : Type 0} (m : Meaning V) (w : World V) (calm : ℕ → Bool) (i : I
   entries-term z more o k other q None is = omega arith
   entries-term z more o k other q (Some p) is = by (eqb p.worker k) refl where
     by : (b : Bool) → eqb p.worker k ≡ b → cond b (left_at z q) 0 ≤ cond b (left_at h q) 0
-    by true here = omega (arith, o.entries q (λ has.
-        let e : Some (record { worker = j; number = has.0 }) ≡ Some p = sym has.1.place ∙ is in
-        let same : record { worker = j; number = has.0 } ≡ p = cc in
-        other (sym (ap (λ (x : Place). x.worker) same ∙ eqb-true p.worker k here))))
+    by true here = omega (
+      arith,
+      o.entries q (λ has.
+          let e : Some (record { worker = j; number = has.0 }) ≡ Some p = sym has.1.place ∙ is in
+          let same : record { worker = j; number = has.0 } ≡ p = cc in
+          other (sym (ap (λ (x : Place). x.worker) same ∙ eqb-true p.worker k here))),
+    )
     by false here = omega arith
 
   all-entries : (z : Shared V) (more : ℕ) → Others z more → (k : ℕ) → k ≢ j → all_entries_left g z k ≤ all_entries_left g h k
@@ -199,6 +196,7 @@ module _ {V : Type 0} (m : Meaning V) (w : World V) (calm : ℕ → Bool) (i : I
     some-object : (kick : Option ℕ) (x : ℕ) → kick ≡ Some x → is_object kick x ≡ true
     some-object None x is = absurd cc
     some-object (Some y) x is = eq-eqb y x (let h : Some y ≡ Some x = is in cc)
+
     own : (m : Member) → IsOwn g f j m → m.object ≡ object → m.token ≡ token → ⊥
     own m its here there =
         elim its.is [
@@ -212,6 +210,7 @@ module _ {V : Type 0} (m : Meaning V) (w : World V) (calm : ℕ → Bool) (i : I
           | inr (inl bell) ↦ (let at' = slot g q j token at in omega (arith, at'.0, few-queues g j, bell.token, there))
           | inr (inr heard) ↦ (let at' = slot g q j token at in omega (arith, at'.0, few-queues g j, heard.token, there))
         ]
+
     by : (b : Bool) → has_token (member_of (ms j) object) token ≡ b → b ≡ false
     by true has = absurd (let found = has-own (IsOwn g f j) (ms j) object (i.linked.members j low) (member_of (ms j) object) refl token has in own found.0 found.1 found.2 found.3)
     by false has = refl
@@ -247,6 +246,7 @@ module _ {V : Type 0} (m : Meaning V) (w : World V) (calm : ℕ → Bool) (i : I
             | inr exit ↦ absurd (let yes = ap is_some exit in cc)
           ]
         ]
+
     by : (b : Bool) → has_token (member_of (ms j) object) token ≡ b → events_in n (ms j) h.table Idle ≤ events_in n (ms j) h.table (Polled object token)
     by true has = (let found = has-own (IsOwn g f j) (ms j) object (i.linked.members j low) (member_of (ms j) object) refl token has in own found.0 found.1 found.2 found.3)
     by false has = stale-same n (ms j) h.table object token Idle (λ o. refl) has
@@ -256,9 +256,12 @@ module _ {V : Type 0} (m : Meaning V) (w : World V) (calm : ℕ → Bool) (i : I
       let bell = (opened_at g j).bell in
       cond_both {A = Local V} (nat_lt 0 (count_at h.table bell)) (record { shared = counter_read h bell; phase = Sweep }) (record { shared = h; phase = cond (is_some (opened_at g j).exit) (Stopped Exit) Idle }) (Leaf object token)
       (λ above. quiet-own (record { shared = counter_read h bell; phase = Sweep }) (Polled object token) 0 1 (read-others bell) (λ q. refl)
-      (omega (arith, events-by (counter_read h bell) (frame-read h bell) j Sweep,
-      read-falls n (ms j) h.table bell Sweep Idle (λ o. refl) (λ o. refl) (i.linked.bell j low) (ltb-true 0 (count_at h.table bell) above) (inl (plain.bells j low)),
-      undone n (ms j) h.table object token Idle (λ o. refl))))
+      (omega (
+        arith,
+        events-by (counter_read h bell) (frame-read h bell) j Sweep,
+        read-falls n (ms j) h.table bell Sweep Idle (λ o. refl) (λ o. refl) (i.linked.bell j low) (ltb-true 0 (count_at h.table bell) above) (inl (plain.bells j low)),
+        undone n (ms j) h.table object token Idle (λ o. refl),
+      )))
       (λ zero. cond_both (is_some (opened_at g j).exit) (Stopped Exit) Idle (λ p. Leaf object token (record { shared = h; phase = p }))
       (λ some. record { others = still; own = inl (tt, omega arith) })
       (λ none. quiet-own (record { shared = h; phase = Idle }) (Polled object token) 0 1 still (λ q. refl)
@@ -340,8 +343,13 @@ module _ {V : Type 0} (m : Meaning V) (w : World V) (calm : ℕ → Bool) (i : I
       let z = after_none h p in
       quiet-own (record { shared = z; phase = serving rest }) (Serving (p ∷ rest)) 0 1 o
       (λ q. entries-same h z q shaped.regions (shaped.addresses q) (none-leaf h (λ x. (ring_at x q).queue.next_avail ≡ (ring_at h q).queue.next_avail) p (λ live. refl) (λ not. refl)) (words q))
-      (omega (arith, serving-weight workers rest, o.events j (serving rest), bare-same n (ms j) h.table (serving rest) (Serving (p ∷ rest)) (serving-bare n (ms j) rest) (λ o. refl),
-      none-leaf h (λ x. length (pending_at x j) ≡ length (pending_at h j)) p (λ live. refl) (λ not. refl))))
+      (omega (
+        arith,
+        serving-weight workers rest,
+        o.events j (serving rest),
+        bare-same n (ms j) h.table (serving rest) (Serving (p ∷ rest)) (serving-bare n (ms j) rest) (λ o. refl),
+        none-leaf h (λ x. length (pending_at x j) ≡ length (pending_at h j)) p (λ live. refl) (λ not. refl),
+      )))
       (λ d is o shaped words. record { others = o; own = inl (tt, omega arith) })
       o shaped words
 
@@ -353,8 +361,13 @@ module _ {V : Type 0} (m : Meaning V) (w : World V) (calm : ℕ → Bool) (i : I
       quiet-own (record { shared = z; phase = serving queues }) (Served e reply queues) 1 (6 * workers + 1) o
       (λ q. entries-same h z q shaped.regions (shaped.addresses q)
       (ap (λ (x : Vring). x.queue.next_avail) (called-ring (used h e reply) (ring_at h e.queue).call wanted q) ∙ field-kept (λ (x : Vring). x.queue.next_avail) h e.queue (changed (ring_at h e.queue) op.Put) refl q) (words q))
-      (omega (arith, serving-weight workers queues, o.events j (serving queues), bare-same n (ms j) h.table (serving queues) (Served e reply queues) (serving-bare n (ms j) queues) (λ o. refl),
-      ap length (called-pending (used h e reply) (ring_at h e.queue).call wanted j)))
+      (omega (
+        arith,
+        serving-weight workers queues,
+        o.events j (serving queues),
+        bare-same n (ms j) h.table (serving queues) (Served e reply queues) (serving-bare n (ms j) queues) (λ o. refl),
+        ap length (called-pending (used h e reply) (ring_at h e.queue).call wanted j),
+      ))
   put-own e reply queues (Err fault) o shaped words = record { others = o; own = inl (tt, omega arith) }
 
   -- Every step

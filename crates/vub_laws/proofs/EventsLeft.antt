@@ -1,13 +1,13 @@
 -- How reading, raising and polling change the events left.
-use Rattle.std.proofs.Common.{◌≡◌, ◌≢◌, ℕ, zero, suc, ◌+◌, ◌-◌, ◌*◌, ◌<◌, ◌≤◌, Bool, true, false, cond, not, ◌&&◌, ◌||◌, ◌==◌, nat_lt, eqb, inl, inr, ◌⊎◌, Option, Some, None, is_some, List, [], ◌∷◌, length, find, slice_index_or, slice_set, refl, sym, ap, ap₂, ◌∙◌, subst, arith}
+use Rattle.std.proofs.Common.{◌≡◌, ◌≢◌, ℕ, ◌+◌, ◌-◌, ◌<◌, ◌≤◌, Bool, true, false, cond, not, ◌&&◌, ◌||◌, ◌==◌, nat_lt, eqb, inl, inr, ◌⊎◌, Option, Some, None, is_some, List, [], ◌∷◌, length, find, slice_index_or, refl, sym, ap, ◌∙◌, subst, arith}
 use Rattle.std.specs.Prelude.{sum_by}
 use Rattle.std.specs.List.{AllByRecursion, list_any, range_with_len, cons_option}
-use Rattle.std.proofs.lemmas.Bool.{cases_Bool, cases_eq, cases_lt, eqb-true, eq-eqb, ne_eqb, lt-ltb, le-ltb, ltb-true, ltb-false}
+use Rattle.std.proofs.lemmas.Bool.{cases_eq, cases_lt, eqb-true, eq-eqb, ne_eqb, lt-ltb, le-ltb}
 use Rattle.std.proofs.lemmas.List.{get_or-set_same, get_or-set_other, get_or_past, set_past, length-set}
 use Rattle.vub_event.specs.declared.event.Event.{Event}
 use Rattle.vub_event.specs.declared.member.Member.{Member}
 use Rattle.vub_event.specs.declared.ready.Ready.{Ready}
-use Rattle.vub_event.specs.Counter.{greatest_count, read_value, has_bits, reported_bits}
+use Rattle.vub_event.specs.Counter.{greatest_count, reported_bits}
 use Rattle.vub_event.specs.HostTable.{HostTable, event_at, with_event, report_of, reports_of}
 use Rattle.vub_event.specs.InterestList.{member_of}
 use Rattle.vub_model.specs.declared.phase.Phase.{Phase}
@@ -162,8 +162,10 @@ module _ (queues : ℕ) (ms : List Member) where
       omega (arith, same-length t x e p, sum-le (λ o. at (with_event t x e) p o) (λ o. at t p o) (length t.objects) 0 (λ o low. each o)) where
         own : x < length t.objects → at (with_event t x e) p x ≤ at t p x
         own below = cond-le (is_member ms x) _ _ (minus-le _ _ (polled_off p ms x) (omega (arith, le, ap (event_left (counted x)) (at-own t x e below))))
+
         past-same : length t.objects ≤ x → at (with_event t x e) p x ≡ at t p x
         past-same past = ap (λ l. cond (is_member ms x) (event_left (counted x) (slice_index_or l x None) - polled_off p ms x) 0) (set_past t.objects x e past)
+
         each : (o : ℕ) → at (with_event t x e) p o ≤ at t p o
         each o =
             elim (cases_eq o x) [
@@ -179,8 +181,12 @@ module _ (queues : ℕ) (ms : List Member) where
   pub raised-events : (t : HostTable) (x : ℕ) (p : Phase) → events_in queues ms (with_event t x (raised_option (event_at t x))) p ≤ events_in queues ms t p + 1
   raised-events t x p =
       let e = raised_option (event_at t x) in
-      omega (arith, same-length t x e p, sum-raised (λ o. at (with_event t x e) p o) (λ o. at t p o) (length t.objects) 0 x
-      (λ o other. omega (arith, other-same t x e p o other)) own) where
+      omega (
+        arith,
+        same-length t x e p,
+        sum-raised (λ o. at (with_event t x e) p o) (λ o. at t p o) (length t.objects) 0 x
+            (λ o other. omega (arith, other-same t x e p o other)) own,
+      ) where
         own : at (with_event t x (raised_option (event_at t x))) p x ≤ at t p x + 1
         own =
             elim (cases_lt x (length t.objects)) [
@@ -197,10 +203,15 @@ module _ (queues : ℕ) (ms : List Member) where
   pub read-falls : (t : HostTable) (x : ℕ) (p q : Phase) → Bare p → Bare q → is_member ms x ≡ true → 0 < count_at t x → (is_semaphore (event_at t x) ≡ false) ⊎ (counted x ≡ true) → events_in queues ms (with_event t x (read_option (event_at t x))) p + 1 ≤ events_in queues ms t q
   read-falls t x p q bare-p bare-q member above which =
       let e = read_option (event_at t x) in
-      omega (arith, same-length t x e p, sum-falls (λ o. at (with_event t x e) p o) (λ o. at t q o) (length t.objects) 0 x (omega arith) (omega (arith, within t x above))
-      (λ o other. omega (arith, other-same t x e p o other, bare o)) own) where
+      omega (
+        arith,
+        same-length t x e p,
+        sum-falls (λ o. at (with_event t x e) p o) (λ o. at t q o) (length t.objects) 0 x (omega arith) (omega (arith, within t x above))
+            (λ o other. omega (arith, other-same t x e p o other, bare o)) own,
+      ) where
         bare : (o : ℕ) → at t p o ≡ at t q o
         bare o = ap (λ d. cond (is_member ms o) (event_left (counted o) (event_at t o) - d) 0) (bare-p o ∙ sym (bare-q o))
+
         own : at (with_event t x (read_option (event_at t x))) p x + 1 ≤ at t q x
         own = rw (member, bare-p x, bare-q x) (omega (arith, event-read-less (counted x) (event_at t x) above which, ap (event_left (counted x)) (at-own t x (read_option (event_at t x)) (within t x above))))
 
@@ -236,6 +247,7 @@ module _ (queues : ℕ) (ms : List Member) where
                   omega (arith, now, stale (has_token (member_of ms x) token) refl))
               | inr past ↦ omega (arith, ap (λ l. event_left (counted x) (slice_index_or l x None)) (set_past t.objects x (read_option (event_at t x)) past), ap (event_left (counted x)) (get_or_past t.objects x None past))
             ]
+
         each : (o : ℕ) → at (with_event t x (read_option (event_at t x))) p o ≤ at t (Polled x token) o
         each o =
             elim (cases_eq o x) [
@@ -288,6 +300,7 @@ report-above m (Some e) r asks hung is = by (eqb (reported_bits e m.set.0) 0) re
         | inl high ↦ high
         | inr low ↦ absurd (let zero : reported_bits e m.set.0 ≡ 0 = ap (reported_bits e) asks ∙ no-bits e hung low in let yes = eq-eqb (reported_bits e m.set.0) 0 zero in cc)
       ]
+
   by : (b : Bool) → eqb (reported_bits e m.set.0) 0 ≡ b → cond {A = Option Ready} b None (Some record { object = m.object; events = reported_bits e m.set.0; token = m.token }) ≡ Some r → (0 < e.count) × (r.object ≡ m.object) × (r.token ≡ m.token)
   by true some is = absurd cc
   by false some is =
@@ -356,6 +369,7 @@ zero-same queues ms t x token p bare none =
     sum-le (λ o. object_left queues ms t p o) (λ o. object_left queues ms t (Polled x token) o) (length t.objects) 0 (λ o low. each o) where
       own : object_left queues ms t p x ≤ object_left queues ms t (Polled x token) x
       own = cond-le (is_member ms x) _ _ (omega (arith, event-zero (counted queues ms x) (event_at t x) none))
+
       each : (o : ℕ) → object_left queues ms t p o ≤ object_left queues ms t (Polled x token) o
       each o =
           elim (cases_eq o x) [

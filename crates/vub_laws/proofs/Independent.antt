@@ -1,20 +1,17 @@
 -- A queue that nothing disturbs is served as alone.
-use Rattle.std.proofs.Common.{◌≡◌, ◌≢◌, ℕ, zero, suc, Option, Some, None, ◌<◌, ◌+◌, Bool, true, false, cond, not, ◌&&◌, ◌||◌, ◌==◌, slice_index_or, slice_set, inl, inr, ◌⊎◌, List, [], ◌∷◌, ◌++◌, length, map, filter, Result, Ok, Err, refl, sym, ap, ap₂, subst, ◌∙◌, arith, eqb, append_assoc, append-nil}
+use Rattle.std.proofs.Common.{◌≡◌, ◌≢◌, ℕ, Option, Some, None, ◌<◌, Bool, true, false, cond, not, ◌||◌, ◌==◌, slice_index_or, inl, inr, List, [], ◌∷◌, ◌++◌, length, refl, sym, ap, subst, ◌∙◌, arith, append_assoc}
 use Rattle.std.specs.List.{AllByRecursion}
-use Rattle.std.proofs.lemmas.Bool.{cases_Bool, cases_lt, cases_eq, eqb-true, eqb-false, eq-eqb, ne_eqb}
+use Rattle.std.proofs.lemmas.Bool.{cases_lt, cases_eq, eqb-true}
 use Rattle.std.proofs.lemmas.List.{get_or-set_same, get_or-set_other, get_or_past, length-set}
 use Rattle.vub_mem.specs.Memory.{Guest}
 use Rattle.vub_queue.specs.EntryNumber.{index_covers, left_of}
 use Rattle.vub_model.specs.declared.cause.StopCause.TheVariants.{Exit}
-use Rattle.vub_model.specs.declared.entry.Entry.{Entry}
-use Rattle.vub_model.specs.declared.flight.Flight.{Flight}
-use Rattle.vub_model.specs.declared.flight.Flight.TheVariants as flight
 use Rattle.vub_model.specs.declared.play.Play.{Play}
 use Rattle.vub_model.specs.declared.play.Play.TheVariants as play
 use Rattle.vub_model.specs.declared.party.Party.{Party}
 use Rattle.vub_model.specs.declared.party.Party.TheVariants as party
 use Rattle.vub_model.specs.declared.phase.Phase.{Phase}
-use Rattle.vub_model.specs.declared.phase.Phase.TheVariants.{Idle, Polled, Sweep, Serving, Taken, Served, Stopped}
+use Rattle.vub_model.specs.declared.phase.Phase.TheVariants.{Serving, Taken, Served, Stopped}
 use Rattle.vub_model.specs.declared.small.Small.{Small}
 use Rattle.vub_model.specs.declared.small.Small.TheVariants.{Claim, Release, Add, Delete, Listen, Unlisten, Bell}
 use Rattle.vub_model.specs.declared.small.Small.TheVariants.{Remove, Insert, Set, Info, Table, Log, Device}
@@ -29,7 +26,7 @@ use Rattle.vub_model.specs.EntryNumber.{has_left}
 use Rattle.vub_model.specs.Shared.{Shared, ring_at}
 use Rattle.vub_model.specs.Service.{Meaning}
 use Rattle.vub_model.specs.Wiring.{Wiring, HasWorker, place_of}
-use Rattle.vub_model.specs.Work.{Local, MayWork, after_work}
+use Rattle.vub_model.specs.Work.{MayWork, after_work}
 use Rattle.vub_model.specs.Running.{index_word, HasStopped, IsRunning, NoneIsLost}
 use Rattle.vub_model.specs.World.{World, May, after, after_guest, phase_at, written_by}
 use Rattle.vub_model.specs.RunOf.{Turn, IsRun, IsAtRest, EachTurn, party_of, next}
@@ -41,12 +38,12 @@ use Rattle.vub_model.proofs.Owners.{within-phases}
 use Rattle.vub_model.proofs.Shapes.{shape}
 use Rattle.vub_model.proofs.Sound.{IsSound, sound-turn}
 use Rattle.vub_model.proofs.Turns.{turn-cases, turn-next}
-use Rattle.vub_laws.specs.Alone.{Placing, serving_of, alone, served_alone, placed_at, placings, read_by, is_of, read_at, wrote_at, taken_bytes, others_bytes, SparesQueue, KeepsWord, IsUndisturbed, IsAsAlone}
+use Rattle.vub_laws.specs.Alone.{Placing, serving_of, alone, placed_at, placings, read_by, is_of, read_at, wrote_at, taken_bytes, others_bytes, SparesQueue, KeepsWord, IsUndisturbed, IsAsAlone}
 use Rattle.vub_laws.specs.EntriesLeft.{entries_left}
-use Rattle.vub_laws.proofs.Agreeing.{Agree, Clear, agree-changed, spot-left, spot-right, clear-left, clear-right}
-use Rattle.vub_laws.proofs.Alike.{Alike, left-alike}
-use Rattle.vub_laws.proofs.Own.{Free, Flown, State, Stepped, IsReplied, Hand, own-step, state-moved, placed-none}
-use Rattle.vub_laws.proofs.Quiet.{not-same, quiet-ring, quiet-agree}
+use Rattle.vub_laws.proofs.Agreeing.{Clear, agree-changed, spot-left, spot-right, clear-left, clear-right}
+use Rattle.vub_laws.proofs.Alike.{left-alike}
+use Rattle.vub_laws.proofs.Own.{State, IsReplied, own-step, state-moved, placed-none}
+use Rattle.vub_laws.proofs.Quiet.{quiet-ring, quiet-agree}
 use Rattle.vub_laws.proofs.Stores.{guest-changes, small-changes}
 use Rattle.vub_laws.proofs.Uses.{used-run}
 
@@ -188,8 +185,8 @@ module _ {V : Type 0} (m : Meaning V) (v : V) (q : ℕ) (F : ℕ → ℕ → Typ
         turn-cases m w p z (λ l. Fits w p l z → WorldStepped z (placed_at w q p l) n a r)
         (λ same fits. let K : World V → Type 0 = λ x. WorldState x n a r in (n, a, r, subst K (sym same) s, ap (λ x. x ++ alone m v q n a r) (sym (placed-pass p))))
         (λ l may is fits.
-            let K : World V → Type 0 = λ x. Fits w p l x → WorldStepped x (placed_at w q p l) n a r in
-            (subst K (sym is) (λ fits. step p l may fits n a r s)) fits)
+        let K : World V → Type 0 = λ x. Fits w p l x → WorldStepped x (placed_at w q p l) n a r in
+        (subst K (sym is) (λ fits. step p l may fits n a r s)) fits)
         l t (let K : World V → Type 0 = λ x. Fits w p l x in subst K (sym (turn-next m w p l z t)) fits)
 
   -- Runs
@@ -257,10 +254,14 @@ module _ {V : Type 0} (m : Meaning V) (v : V) (q : ℕ) (F : ℕ → ℕ → Typ
       let A : World V → Type 0 = λ x. FitsAll m v q F k turns plays x in
       let fits' : FitsAll m v q F k turns plays mid = subst A (sym (turn-next m w p l mid run.1)) (fits-rest m v q F k turn turns l plays w fits) in
       let rest = along turns plays mid z (sound-turn m (length turns) w p l mid sound run.1) only' run.2 fits' one.0 one.1 one.2 one.3 in
-      let now : placings m q turns plays mid ≡ placings m q turns plays (next m w p l) = ap (λ x. placings m q turns plays x) (turn-next m w p l mid run.1) in
-      (rest.0, rest.1, rest.2, rest.3,
-      one.4 ∙ ap (λ x. placed_at w q p l ++ x) (rest.4 ∙ ap (λ x. x ++ alone m v q rest.0 rest.1 rest.2) now)
-      ∙ sym (append_assoc (placed_at w q p l) (placings m q turns plays (next m w p l)) (alone m v q rest.0 rest.1 rest.2)))
+      let now : placings m q turns plays mid ≡ placings m q turns plays (next m w p l) = ap (λ x. placings m q turns plays x) (turn-next m w p l mid run.1) in (
+        rest.0,
+        rest.1,
+        rest.2,
+        rest.3,
+        one.4 ∙ ap (λ x. placed_at w q p l ++ x) (rest.4 ∙ ap (λ x. x ++ alone m v q rest.0 rest.1 rest.2) now)
+            ∙ sym (append_assoc (placed_at w q p l) (placings m q turns plays (next m w p l)) (alone m v q rest.0 rest.1 rest.2)),
+      )
 
 run-wiring : {V : Type 0} (m : Meaning V) (turns : List ℕ) (plays : List Play) (w z : World V) → IsRun m turns plays w z → z.wiring ≡ w.wiring
 run-wiring m [] [] w z run = ap (λ x. x.wiring) run
@@ -285,9 +286,11 @@ zero-left h q left =
 -- a queue has a worker, or none has it
 sole : (g : Wiring) (q : ℕ) (found : Option Place) → place_of g q ≡ found → (k : ℕ) × ((j : ℕ) → HasWorker g q j → j ≡ k)
 sole g q None is = (0, λ j has. absurd (let e = sym has.1.place ∙ is in absurd cc))
-sole g q (Some p) is =
-    (p.worker, λ j has. let e : Some (record { worker = j; number = has.0 }) ≡ Some p = sym has.1.place ∙ is in
-    let same : record { worker = j; number = has.0 } ≡ p = cc in ap (λ (x : Place). x.worker) same)
+sole g q (Some p) is = (
+  p.worker,
+  λ j has. let e : Some (record { worker = j; number = has.0 }) ≡ Some p = sym has.1.place ∙ is in
+      let same : record { worker = j; number = has.0 } ≡ p = cc in ap (λ (x : Place). x.worker) same,
+)
 
 -- no worker has an entry in hand where none has a step
 hand-steps : {V : Type 0} (w : World V) (k q : ℕ) (phase : Phase) → phase_at w.phases k ≡ phase → IsAtRest w → HasInHand phase q → ⊥
@@ -315,7 +318,7 @@ as-alone {V} m v turns plays w z calm sound last run lost q free undisturbed =
     let h = w.shared in
     let n = entries_left h.guest (ring_at h q) in
     let start : State m v q F h (phase_at w.phases k.0) n h.guest (ring_at h q) =
-        inl ((λ hand. let flies = (sound.invariant.hands k.0 q hand).1.flight in let here = ap is_in_flight (sym flies) in absurd (let e = here ∙ free in cc)), record { ring = refl; left = refl; agree = inr (record { regions = refl; lengths = λ o. refl; bytes = λ o i apart. refl }) }) in
+    inl ((λ hand. let flies = (sound.invariant.hands k.0 q hand).1.flight in let here = ap is_in_flight (sym flies) in absurd (let e = here ∙ free in cc)), record { ring = refl; left = refl; agree = inr (record { regions = refl; lengths = λ o. refl; bytes = λ o i apart. refl }) }) in
     let fits : FitsAll m v q F k.0 turns plays w = record {
       foreign = λ o i is. is;
       clear = λ o i is f. undisturbed.apart o i f is;
@@ -341,5 +344,6 @@ as-alone {V} m v turns plays w z calm sound last run lost q free undisturbed =
             | inl below ↦ (let sized = last.invariant.rings_size in let wired = ap (λ (g : Wiring). g.queues) (run-wiring m turns plays w z run) in omega (arith, below, sized, wired))
             | inr past ↦ absurd (let none = ap (λ (r : Vring). r.kick) (get_or_past z.shared.rings q closed_ring past) in let some = runs.has_kick in cc)
           ]
+
       at-place : (k : ℕ) → ((j : ℕ) → HasWorker w.wiring q j → j ≡ k) → (p : Place) → place_of w.wiring q ≡ Some p → q < w.wiring.queues → p.worker ≡ k
       at-place k only p placed there = only p.worker (p.number, record { there = there; place = placed })

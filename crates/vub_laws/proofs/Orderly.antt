@@ -1,28 +1,24 @@
 -- Every run of a valid set-up is orderly.
-use Rattle.std.proofs.Common.{◌≡◌, ℕ, zero, suc, ◌+◌, ◌<◌, ◌≤◌, Bool, true, false, List, [], ◌∷◌, ◌++◌, length, take, drop, append-nil, length-append, take-append-drop, refl, sym, ap, ap₂, ◌∙◌, subst, arith}
+use Rattle.std.proofs.Common.{◌≡◌, ℕ, suc, ◌+◌, ◌<◌, ◌≤◌, Bool, List, [], ◌∷◌, ◌++◌, length, take, drop, append-nil, length-append, take-append-drop, sym, ap, ap₂, ◌∙◌, subst, arith}
 use Rattle.vub_model.specs.declared.constants.Constants.{Constants}
-use Rattle.vub_model.specs.declared.party.Party.{Party}
 use Rattle.vub_model.specs.declared.play.Play.{Play}
 use Rattle.vub_model.specs.declared.setup.Setup.{Setup}
 use Rattle.vub_model.specs.Opening.{opening, is_registered}
-use Rattle.vub_model.specs.RingRecord.{limit, is_in_flight}
-use Rattle.vub_model.specs.RunOf.{party_of, Turn, IsRun, EachTurn, next}
+use Rattle.vub_model.specs.RingRecord.{limit}
+use Rattle.vub_model.specs.RunOf.{party_of, IsRun, next}
 use Rattle.vub_model.specs.Running.{calm_end}
 use Rattle.vub_model.specs.Service.{Meaning}
-use Rattle.vub_model.specs.Shared.{ring_at}
 use Rattle.vub_model.specs.ValidSetup.{IsValid}
 use Rattle.vub_model.specs.World.{World}
-use Rattle.vub_model.proofs.EachTurns.{each-turn}
 use Rattle.vub_model.proofs.OpeningMeets.{opening-meets, opening-untaken}
 use Rattle.vub_model.proofs.OpeningSound.{opening-sound}
 use Rattle.vub_model.proofs.SchedRuns.{IsFew, invariant-run, at-rest}
 use Rattle.vub_model.proofs.Sound.{IsSound, sound-turn}
-use Rattle.vub_laws.specs.Alone.{alone, placings, IsAsAlone, IsUndisturbed}
-use Rattle.vub_laws.specs.Draining.{StaysPlain}
+use Rattle.vub_laws.specs.Alone.{alone, placings}
 use Rattle.vub_laws.specs.EntriesLeft.{entries_left}
 use Rattle.vub_laws.specs.Orderly.{calm_at, StandsAlone, IsOrderly, RunsAreOrderly, SchedulesAgree}
 use Rattle.vub_laws.specs.Stretches.{world_after, world_at, stretch}
-use Rattle.vub_laws.proofs.DrainRuns.{Goes, opening-goes, each-plain, drains-run}
+use Rattle.vub_laws.proofs.DrainRuns.{opening-goes, plain-run, drains-run}
 use Rattle.vub_laws.proofs.Independent.{as-alone}
 use Rattle.vub_laws.proofs.Stretches.{run-next, run-later, run-first}
 
@@ -86,7 +82,7 @@ module _ {V : Type 0} (m : Meaning V) (constants : Constants) (setup : Setup) (v
       let goes = opening-goes constants setup v valid (length schedule) short in
       record {
         last = run-last m schedule plays start closing run;
-        plain = each-plain m schedule plays start closing goes run;
+        plain = plain-run m schedule plays start closing goes run;
         drains = drains-run m schedule plays start closing goes run;
         alone = stands-alone;
       }

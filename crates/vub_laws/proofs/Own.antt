@@ -1,37 +1,27 @@
 -- A step of a queue's worker goes with the queue's being served alone.
-use Rattle.std.proofs.Common.{◌≡◌, ◌≢◌, ℕ, zero, suc, Option, Some, None, ◌<◌, ◌+◌, ◌-◌, ◌%◌, ◌^◌, Bool, true, false, cond, not, ◌&&◌, ◌==◌, slice_index_or, inl, inr, ◌⊎◌, List, [], ◌∷◌, ◌++◌, length, Result, Ok, Err, refl, sym, ap, ap₂, subst, ◌∙◌, arith, eqb, nat_lt}
-use Rattle.std.specs.Int.{w16, w32, to_le_bytes}
-use Rattle.std.specs.List.{AllByRecursion}
-use Rattle.std.proofs.lemmas.Bool.{cases_Bool, cases_lt, ne_eqb, eqb-true, eqb-false, eq-eqb, ltb-true}
+use Rattle.std.proofs.Common.{◌≡◌, ℕ, suc, Option, Some, None, ◌<◌, Bool, true, false, cond, not, inl, inr, ◌⊎◌, List, [], ◌∷◌, ◌++◌, length, Result, Ok, Err, refl, sym, ap, subst, ◌∙◌, arith, eqb}
+use Rattle.std.specs.Int.{w16}
+use Rattle.std.proofs.lemmas.Bool.{cases_Bool, ne_eqb, eqb-true, eq-eqb}
 use Rattle.vub_mem.specs.declared.region.Region.{Region}
 use Rattle.vub_mem.specs.Memory.{Guest}
-use Rattle.vub_mem.specs.Place.{covers, number_at}
+use Rattle.vub_mem.specs.Place.{number_at}
 use Rattle.vub_queue.specs.declared.chain.Chain.{Chain}
-use Rattle.vub_queue.specs.declared.damage.Damage.TheVariants.{RingOutside, IndexAhead}
-use Rattle.vub_queue.specs.declared.head.Head.{Head}
-use Rattle.vub_queue.specs.declared.head.Head.TheVariants.{Empty, At, Broken}
 use Rattle.vub_queue.specs.declared.putting.PutFault.{PutFault}
 use Rattle.vub_queue.specs.declared.putting.PutFault.TheVariants as put_fault
-use Rattle.vub_queue.specs.declared.took.Took.{Took}
 use Rattle.vub_queue.specs.declared.took.Took.TheVariants as took
-use Rattle.vub_queue.specs.EntryNumber.{minus, after}
-use Rattle.vub_queue.specs.Layout.{avail_index_at, avail_slot_at}
+use Rattle.vub_queue.specs.Layout.{avail_index_at}
 use Rattle.vub_queue.specs.Notification.{used_event_covers, wants_notification}
 use Rattle.vub_queue.specs.Put.{put_answer, put_guest, write_used, room_covers, used_covers, ring_used}
-use Rattle.vub_queue.specs.Ring.{Ring}
 use Rattle.vub_queue.specs.Function.{took_of}
-use Rattle.vub_queue.specs.Take.{guest_taken, head_of, Taken as TakenSo}
-use Rattle.vub_queue.proofs.Walks.{takes_some}
 use Rattle.std.proofs.lemmas.List.{length-set}
-use Rattle.vub_model.specs.declared.flight.Flight.TheVariants as flight
 use Rattle.vub_model.specs.declared.entry.Entry.{Entry}
 use Rattle.vub_model.specs.declared.play.Play.{Play}
 use Rattle.vub_model.specs.declared.play.Play.TheVariants as play
 use Rattle.vub_model.specs.declared.phase.Phase.{Phase}
 use Rattle.vub_model.specs.declared.phase.Phase.TheVariants.{Idle, Polled, Sweep, Heard, Serving, Taken, Served}
 use Rattle.vub_model.specs.declared.ring_op.RingOp.TheVariants as op
-use Rattle.vub_model.specs.RingRecord.{Vring, closed_ring, has_addresses, changed, ring_after, is_on}
-use Rattle.vub_model.specs.Shared.{Shared, ring_at, with_ring, counter_read}
+use Rattle.vub_model.specs.RingRecord.{Vring, has_addresses, changed, ring_after}
+use Rattle.vub_model.specs.Shared.{Shared, ring_at}
 use Rattle.vub_model.specs.Service.{Meaning}
 use Rattle.vub_model.specs.Wiring.{Wiring}
 use Rattle.vub_model.specs.Work.{Local, MayWork, after_work, after_none, after_took, after_take, after_said, used, called, put_said, serving, entry_of, may_take, looked}
@@ -41,19 +31,19 @@ use Rattle.vub_model.specs.Schedule.{HasInHand, PhaseFits}
 use Rattle.vub_model.proofs.Shapes.{shape}
 use Rattle.vub_proto.specs.declared.device_said.DeviceSaid.{DeviceSaid}
 use Rattle.vub_model.specs.Headline.{IsSpot}
-use Rattle.vub_model.proofs.Cases.{work-cases, heard-leaf, take-leaf, none-leaf, said-cases}
+use Rattle.vub_model.proofs.Cases.{work-cases, heard-leaf, take-leaf, none-leaf}
 use Rattle.vub_model.proofs.Live.{looked-live, live-parts, live-taken}
 use Rattle.vub_model.proofs.Confined.{confined-work}
 use Rattle.vub_model.proofs.Counting.{ring-own, regions-taken, regions-put}
 use Rattle.vub_model.proofs.FlowSteps.{on-within}
 use Rattle.vub_model.proofs.Waking.{called-ring}
-use Rattle.vub_laws.specs.Alone.{serving_of, Placing, placing, if_entry, alone, placed_in, take_reads, read_by, is_of}
+use Rattle.vub_laws.specs.Alone.{serving_of, Placing, placing, alone, placed_in, take_reads, read_by, is_of}
 use Rattle.vub_laws.specs.EntriesLeft.{entries_left}
 use Rattle.vub_laws.proofs.Alike.{Alike, took-alike, said-alike, guest-alike, placing-alike, entry-alike, left-alike, index-alike, taken-alike, put-alike}
 use Rattle.vub_laws.proofs.EntriesLeft.{entry-left, none-left, took-here, none-here}
-use Rattle.vub_laws.proofs.Agreeing.{Agree, agree-changed, agree-put, Clear}
+use Rattle.vub_laws.proofs.Agreeing.{Agree, agree-put, Clear}
 use Rattle.vub_laws.proofs.Taking.{take-same}
-use Rattle.vub_laws.proofs.Quiet.{left-kept, not-same, quiet-ring, quiet-hand, quiet-agree}
+use Rattle.vub_laws.proofs.Quiet.{left-kept, quiet-ring, quiet-hand, quiet-agree}
 
 -- What a put tests and writes depends on what was taken not at all
 
@@ -154,15 +144,20 @@ module _ {V : Type 0} (m : Meaning V) (v : V) (q : ℕ) (F : ℕ → ℕ → Typ
         let within = on-within h.rings q parts.on in
         let took = took-here h q c is in
         let more : n ≡ suc (entries_left h.guest (changed r op.Taken)) = f.left ∙ sym (left-alike here r f.ring h.guest) ∙ entry-left h.guest here c parts.addresses took ∙ ap (λ n. suc n) (left-alike (changed here op.Taken) (changed r op.Taken) (taken-alike here r f.ring) h.guest) in
-        let x : Agree F h.guest a = zero-suc n (entries_left h.guest (changed r op.Taken)) (Agree F h.guest a) more f.agree in
-        (n, a, r, inr (inl (record {
-          within = (let same = length-set h.rings q (ring_after here op.Taken) in omega (arith, within, same));
-          its = entry-alike here r f.ring q c;
-          took = sym (took-alike here r f.ring a) ∙ take-same F h.guest a x here.queue c (clear live) took;
-          ring = ap serving_of (ring-own h q (ring_after here op.Taken) within ∙ live-taken here live) ∙ taken-alike here r f.ring;
-          left = more;
-          agree = x;
-        })), refl)
+        let x : Agree F h.guest a = zero-suc n (entries_left h.guest (changed r op.Taken)) (Agree F h.guest a) more f.agree in (
+          n,
+          a,
+          r,
+          inr (inl (record {
+            within = (let same = length-set h.rings q (ring_after here op.Taken) in omega (arith, within, same));
+            its = entry-alike here r f.ring q c;
+            took = sym (took-alike here r f.ring a) ∙ take-same F h.guest a x here.queue c (clear live) took;
+            ring = ap serving_of (ring-own h q (ring_after here op.Taken) within ∙ live-taken here live) ∙ taken-alike here r f.ring;
+            left = more;
+            agree = x;
+          })),
+          refl,
+        )
 
     none-agree : (n : ℕ) (a : Guest) (r : Vring) → looked h q ≡ took.None → Free q F h n a r → (n ≡ 0) ⊎ Agree F (after_none h q).guest a
     none-agree n a r is f =
@@ -182,12 +177,20 @@ module _ {V : Type 0} (m : Meaning V) (v : V) (q : ℕ) (F : ℕ → ℕ → Typ
 
     take-none : (rest : List ℕ) (n : ℕ) (a : Guest) (r : Vring) → Free q F h n a r → looked h q ≡ took.None → index_word (after_none h q) q ≡ index_word h q → Stepped (after_took h q rest took.None) [] n a r
     take-none rest n a r f is word =
-        let ring : Alike (ring_at (after_none h q) q) r = ap serving_of none-kept ∙ f.ring in
-        (n, a, r, inl (serving-idle rest, record {
-          ring = ring;
-          left = f.left ∙ sym (left-kept h.guest (after_none h q).guest r none-regions (word-at h (after_none h q) r ring f.ring word));
-          agree = none-agree n a r is f;
-        }), refl)
+        let ring : Alike (ring_at (after_none h q) q) r = ap serving_of none-kept ∙ f.ring in (
+          n,
+          a,
+          r,
+          inl (
+            serving-idle rest,
+            record {
+              ring = ring;
+              left = f.left ∙ sym (left-kept h.guest (after_none h q).guest r none-regions (word-at h (after_none h q) r ring f.ring word));
+              agree = none-agree n a r is f;
+            },
+          ),
+          refl,
+        )
 
     take-own : (rest : List ℕ) (n : ℕ) (a : Guest) (r : Vring) → ((live : may_take (ring_at h q) ≡ true) → Clear F (take_reads h.guest (ring_at h q).queue)) → index_word (after_take h (q ∷ rest)).shared q ≡ index_word h q → Free q F h n a r → Stepped (after_take h (q ∷ rest)) [] n a r
     take-own rest n a r clear word f =
@@ -212,21 +215,30 @@ module _ {V : Type 0} (m : Meaning V) (v : V) (q : ℕ) (F : ℕ → ℕ → Typ
         let z = called (used h e reply) here.call wanted in
         let ring : Alike (ring_at z q) r' = ap serving_of (called-ring (used h e reply) here.call wanted q ∙ ring-own h q (ring_after here op.Put) f.within) ∙ put-alike here taken f.ring in
         let told : put_answer h.guest.regions r.queue c reply true ≡ Ok true =
-            said-taken h.guest.regions r c reply _ true wanted (sym (said-alike here taken f.ring h.guest.regions c reply (wants_notification (put_guest h.guest here.queue c reply) (ring_used here.queue))) ∙ addressed h e reply wanted said) in
+        said-taken h.guest.regions r c reply _ true wanted (sym (said-alike here taken f.ring h.guest.regions c reply (wants_notification (put_guest h.guest here.queue c reply) (ring_used here.queue))) ∙ addressed h e reply wanted said) in
         let alike : put_answer a.regions r.queue c reply true ≡ Ok true = ap (λ rs. put_answer rs r.queue c reply true) f.agree.regions ∙ told in
         let one : alone m v q n a r ≡ placing a.regions r.queue e reply ∷ alone m v q (entries_left h.guest taken) (put_guest a r.queue c reply) r' = rw f.left (rw f.took (rw alike refl)) in
         let same : placing a.regions r.queue e reply ≡ placing h.guest.regions here.queue e reply = ap (λ rs. placing rs r.queue e reply) f.agree.regions ∙ sym (placing-alike here taken f.ring h.guest.regions e reply) in
         let guest : put_guest h.guest here.queue c reply ≡ put_guest h.guest r.queue c reply = guest-alike here taken f.ring h.guest c reply ∙ guest-taken h.guest r c reply in
-        let agreed : Agree F (put_guest h.guest here.queue c reply) (put_guest a r.queue c reply) = (let A : Guest → Type 0 = λ x. Agree F x (put_guest a r.queue c reply) in subst A (sym guest) (agree-put F h.guest a r.queue c reply f.agree)) in
-        (entries_left h.guest taken, put_guest a r.queue c reply, r', inl (serving-idle queues, record {
-          ring = ring;
-          left = sym (left-kept h.guest z.guest r' (called-regions wanted here.call) (ap (λ p. number_at w16 z.guest p) (sym (index-alike (ring_at z q) r' ring)) ∙ word ∙ ap (λ p. number_at w16 h.guest p) (index-alike here taken f.ring)));
-          agree = inr (called-agree wanted here.call agreed);
-        }), one ∙ ap (λ x. x ∷ alone m v q (entries_left h.guest taken) (put_guest a r.queue c reply) r') same) where
+        let agreed : Agree F (put_guest h.guest here.queue c reply) (put_guest a r.queue c reply) = (let A : Guest → Type 0 = λ x. Agree F x (put_guest a r.queue c reply) in subst A (sym guest) (agree-put F h.guest a r.queue c reply f.agree)) in (
+          entries_left h.guest taken,
+          put_guest a r.queue c reply,
+          r',
+          inl (
+            serving-idle queues,
+            record {
+              ring = ring;
+              left = sym (left-kept h.guest z.guest r' (called-regions wanted here.call) (ap (λ p. number_at w16 z.guest p) (sym (index-alike (ring_at z q) r' ring)) ∙ word ∙ ap (λ p. number_at w16 h.guest p) (index-alike here taken f.ring)));
+              agree = inr (called-agree wanted here.call agreed);
+            },
+          ),
+          one ∙ ap (λ x. x ∷ alone m v q (entries_left h.guest taken) (put_guest a r.queue c reply) r') same,
+        ) where
           called-regions : (b : Bool) (call : Option ℕ) → (called (used h (entry_of q r c) (m.reply_of v c.request c.room)) call b).guest.regions ≡ h.guest.regions
           called-regions false call = regions-put h.guest (ring_at h q).queue c (m.reply_of v c.request c.room)
           called-regions true None = regions-put h.guest (ring_at h q).queue c (m.reply_of v c.request c.room)
           called-regions true (Some object) = regions-put h.guest (ring_at h q).queue c (m.reply_of v c.request c.room)
+
           called-agree : (b : Bool) (call : Option ℕ) → Agree F (put_guest h.guest (ring_at h q).queue c (m.reply_of v c.request c.room)) (put_guest a r.queue c (m.reply_of v c.request c.room)) → Agree F (called (used h (entry_of q r c) (m.reply_of v c.request c.room)) call b).guest (put_guest a r.queue c (m.reply_of v c.request c.room))
           called-agree false call x = x
           called-agree true None x = x
@@ -261,9 +273,13 @@ module _ {V : Type 0} (m : Meaning V) (v : V) (q : ℕ) (F : ℕ → ℕ → Typ
     quiet : (phase : Phase) (l : Play) → MayWork g k h phase l → PhaseFits g k phase → is_of l phase q ≡ false → ((o i : ℕ) → IsSpot (written_by h l phase) o i → F o i)
         → index_word (after_work m g k h phase l).shared q ≡ index_word h q → (n : ℕ) (a : Guest) (r : Vring) → (HasInHand phase q → ⊥) → Free q F h n a r → Stepped (after_work m g k h phase l) (placed_in h q l phase) n a r
     quiet phase l may fits other foreign word n a r none f =
-        let z = (after_work m g k h phase l).shared in
-        (n, a, r, inl (quiet-hand m g k h q phase l may other none, free-moved h z (shape m g k h phase l may fits).rings (ap serving_of (quiet-ring m g k h q phase l may other)) (confined-work h m g k phase l).regions word (quiet-agree m g k h q F phase l foreign) n a r f),
-        ap (λ p. p ++ alone m v q n a r) (sym (placed-none phase l may other)))
+        let z = (after_work m g k h phase l).shared in (
+          n,
+          a,
+          r,
+          inl (quiet-hand m g k h q phase l may other none, free-moved h z (shape m g k h phase l may fits).rings (ap serving_of (quiet-ring m g k h q phase l may other)) (confined-work h m g k phase l).regions word (quiet-agree m g k h q F phase l foreign) n a r f),
+          ap (λ p. p ++ alone m v q n a r) (sym (placed-none phase l may other)),
+        )
 
     -- a serve of an entry is answered as this value of the service would
     abbrev pub IsReplied : Play → Phase → Type 0

@@ -1,7 +1,7 @@
 -- In every run members ask for IN alone, nothing is hung up, and no bell is a semaphore: it is so at the opening, and no
 -- step changes it.
-use Rattle.std.proofs.Common.{◌≡◌, ◌≢◌, ℕ, zero, suc, ◌+◌, ◌<◌, ◌≤◌, Bool, true, false, cond, not, ◌&&◌, ◌==◌, nat_lt, inl, inr, Option, Some, None, List, [], ◌∷◌, ◌++◌, length, map, filter, fold, slice_index_or, slice_set, Result, Ok, Err, refl, sym, ap, ◌∙◌, subst, arith}
-use Rattle.std.specs.List.{AllByRecursion, range_with_len}
+use Rattle.std.proofs.Common.{◌≡◌, ℕ, zero, suc, ◌+◌, ◌<◌, Bool, true, false, cond, not, ◌&&◌, ◌==◌, nat_lt, inl, inr, Option, Some, None, List, [], ◌∷◌, length, map, fold, slice_index_or, slice_set, Result, Ok, Err, refl, sym, ap, ◌∙◌, subst, arith}
+use Rattle.std.specs.List.{AllByRecursion}
 use Rattle.std.proofs.lemmas.Bool.{cases_eq, cases_lt, cond_both}
 use Rattle.std.proofs.lemmas.List.{get_or-set_same, get_or-set_other, set_past}
 use Rattle.std.proofs.lemmas.List.FromFn.{length-map-range_with_len, get_or-map-range_with_len}
@@ -17,7 +17,6 @@ use Rattle.vub_model.specs.declared.entry.Entry.{Entry}
 use Rattle.vub_model.specs.declared.party.Party.{Party}
 use Rattle.vub_model.specs.declared.party.Party.TheVariants as party
 use Rattle.vub_model.specs.declared.phase.Phase.{Phase}
-use Rattle.vub_model.specs.declared.phase.Phase.TheVariants.{Serving}
 use Rattle.vub_model.specs.declared.play.Play.{Play}
 use Rattle.vub_model.specs.declared.play.Play.TheVariants as play
 use Rattle.vub_model.specs.declared.setup.GivenRing.{GivenRing}
@@ -32,10 +31,10 @@ use Rattle.vub_model.specs.declared.small.Small.TheVariants.{Answer as Answering
 use Rattle.vub_model.specs.declared.wiring.Opened.{Opened}
 use Rattle.vub_model.specs.declared.wiring.Place.{Place}
 use Rattle.vub_model.specs.Control.{small_after, can_claim, can_add, can_listen, can_unlisten}
-use Rattle.vub_model.specs.Opening.{opening, before_rings, wiring_of, opened_worker, opening_members, exit_member, listed, opening_events, registered, registered_kick, placed, claimed, claimed_event, joined}
+use Rattle.vub_model.specs.Opening.{opening, before_rings, wiring_of, opened_worker, opening_members, exit_member, listed, opening_events, registered, registered_kick, placed, claimed, claimed_event}
 use Rattle.vub_model.specs.RunOf.{Turn}
 use Rattle.vub_model.specs.Service.{Meaning}
-use Rattle.vub_model.specs.Shared.{Shared, ring_at, raised, raised_option, read_option}
+use Rattle.vub_model.specs.Shared.{Shared, ring_at, raised_option, read_option}
 use Rattle.vub_model.specs.Wiring.{Wiring, opened_at, no_worker, place_of}
 use Rattle.vub_model.specs.Work.{MayWork, after_work, after_take, after_said, put_said, called, used}
 use Rattle.vub_model.specs.World.{World, May, after, after_guest, acted, phase_at}
@@ -60,6 +59,7 @@ hung-up-kept = record { raises = up; reads = down; claims = λ owner e. refl } w
   up : (e : Option Event) → is_hung_up (raised_option e) ≡ is_hung_up e
   up None = refl
   up (Some e) = raised-keeps (λ e. e.hung_up) (λ e n. refl) e (nat_lt e.count greatest_count)
+
   down : (e : Option Event) → is_hung_up (read_option e) ≡ is_hung_up e
   down None = refl
   down (Some e) = refl
@@ -69,6 +69,7 @@ semaphore-kept = record { raises = up; reads = down; claims = λ owner e. refl }
   up : (e : Option Event) → is_semaphore (raised_option e) ≡ is_semaphore e
   up None = refl
   up (Some e) = raised-keeps (λ e. e.semaphore) (λ e n. refl) e (nat_lt e.count greatest_count)
+
   down : (e : Option Event) → is_semaphore (read_option e) ≡ is_semaphore e
   down None = refl
   down (Some e) = refl

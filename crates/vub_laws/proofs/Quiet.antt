@@ -1,34 +1,23 @@
 -- A step that is no take and no put of a queue leaves its ring, its entries left, and what it reads.
-use Rattle.std.proofs.Common.{◌≡◌, ◌≢◌, ℕ, suc, ◌+◌, ◌-◌, ◌%◌, ◌^◌, Bool, true, false, cond, not, ◌&&◌, ◌==◌, inl, inr, ◌⊎◌, List, [], ◌∷◌, length, Result, Ok, Err, refl, sym, ap, ap₂, subst, ◌∙◌, arith, eqb, nat_lt}
+use Rattle.std.proofs.Common.{◌≡◌, ℕ, Bool, false, cond, List, [], ◌∷◌, Result, Ok, Err, refl, sym, ap₂, ◌∙◌, eqb}
 use Rattle.std.specs.Int.{w16}
-use Rattle.std.specs.List.{AllByRecursion}
-use Rattle.std.proofs.lemmas.Bool.{cases_Bool, eqb-true, eqb-false, eq-eqb, ltb-true}
+use Rattle.std.proofs.lemmas.Bool.{eqb-false}
 use Rattle.vub_mem.specs.declared.region.Region.{Region}
 use Rattle.vub_mem.specs.Memory.{Guest}
 use Rattle.vub_mem.specs.Place.{covers, number_at}
-use Rattle.vub_queue.specs.declared.chain.Chain.{Chain}
-use Rattle.vub_queue.specs.declared.damage.Damage.TheVariants.{RingOutside, IndexAhead}
-use Rattle.vub_queue.specs.declared.head.Head.{Head}
-use Rattle.vub_queue.specs.declared.head.Head.TheVariants.{Empty, At, Broken}
-use Rattle.vub_queue.specs.declared.took.Took.TheVariants as took
-use Rattle.vub_queue.specs.EntryNumber.{minus, after}
-use Rattle.vub_queue.specs.Layout.{avail_index_at, avail_slot_at}
-use Rattle.vub_queue.specs.Ring.{Ring}
-use Rattle.vub_queue.specs.Function.{took_of}
-use Rattle.vub_queue.specs.Take.{guest_taken}
+use Rattle.vub_queue.specs.EntryNumber.{minus}
+use Rattle.vub_queue.specs.Layout.{avail_index_at}
 use Rattle.vub_model.specs.declared.entry.Entry.{Entry}
 use Rattle.vub_model.specs.declared.play.Play.{Play}
 use Rattle.vub_model.specs.declared.play.Play.TheVariants as play
 use Rattle.vub_model.specs.declared.phase.Phase.{Phase}
-use Rattle.vub_model.specs.declared.phase.Phase.TheVariants.{Idle, Polled, Sweep, Serving, Taken, Served}
+use Rattle.vub_model.specs.declared.phase.Phase.TheVariants.{Serving}
 use Rattle.vub_model.specs.declared.ring_op.RingOp.TheVariants as op
-use Rattle.vub_model.specs.RingRecord.{Vring, has_addresses, changed, ring_after}
-use Rattle.vub_model.specs.EntryNumber.{left_count}
-use Rattle.vub_model.specs.Shared.{Shared, ring_at, counter_read}
+use Rattle.vub_model.specs.RingRecord.{Vring, has_addresses, ring_after}
+use Rattle.vub_model.specs.Shared.{Shared, ring_at}
 use Rattle.vub_model.specs.Service.{Meaning}
-use Rattle.vub_model.specs.Wiring.{Wiring, HasWorker}
-use Rattle.vub_model.specs.Work.{MayWork, after_work, after_none, after_took, after_said, used, called, put_said, serving}
-use Rattle.vub_model.specs.Running.{index_word}
+use Rattle.vub_model.specs.Wiring.{Wiring}
+use Rattle.vub_model.specs.Work.{MayWork, after_work, after_none, after_said, used, put_said, serving}
 use Rattle.vub_model.specs.World.{written_by}
 use Rattle.vub_model.specs.Schedule.{HasInHand}
 use Rattle.vub_model.specs.Headline.{IsSpot}

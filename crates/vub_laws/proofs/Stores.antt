@@ -1,7 +1,6 @@
 -- What an action of the guest and a small step of control change of guest memory.
-use Rattle.std.proofs.Common.{◌≡◌, ℕ, zero, suc, ◌+◌, ◌-◌, ◌<◌, ◌≤◌, Bool, true, false, cond, eqb, nat_le, inl, inr, List, [], ◌∷◌, ◌++◌, length, map, get_or, take, drop, refl, sym, ap, subst, ◌∙◌, arith}
-use Rattle.std.specs.List.{range_with_len}
-use Rattle.std.proofs.lemmas.Bool.{cases_Bool, cases_eq, cases_lt, cond_both, eqb-true, eq-eqb, ne_eqb, le-leb, leb-true}
+use Rattle.std.proofs.Common.{◌≡◌, ℕ, zero, suc, ◌+◌, ◌-◌, ◌<◌, ◌≤◌, false, eqb, nat_le, inl, inr, List, [], ◌∷◌, ◌++◌, length, get_or, take, drop, refl, sym, ap, subst, ◌∙◌, arith}
+use Rattle.std.proofs.lemmas.Bool.{cases_Bool, cases_eq, cases_lt, cond_both, eqb-true, ne_eqb, leb-true}
 use Rattle.std.proofs.lemmas.List.{get_or_append_left, get_or-append_right, get_or-take, get_or-drop, length-take-le}
 use Rattle.vub_mem.specs.declared.content.Content.{Content}
 use Rattle.vub_mem.specs.Laws.{byte_of}
@@ -18,9 +17,8 @@ use Rattle.vub_model.specs.Control.{small_after}
 use Rattle.vub_model.specs.Headline.{IsSpot, ChangesOnly}
 use Rattle.vub_model.specs.Shared.{Shared}
 use Rattle.vub_model.specs.Wiring.{Wiring}
-use Rattle.vub_model.specs.World.{World, acted, after_guest, stored}
+use Rattle.vub_model.specs.World.{World, after_guest, stored}
 use Rattle.vub_model.specs.Written.{Spot}
-use Rattle.vub_model.proofs.Counting.{regions-store}
 use Rattle.vub_laws.specs.Alone.{store_spots, stored_spots}
 
 -- Stores

@@ -1,12 +1,12 @@
 -- What holds of a run holds of each stretch of it.
-use Rattle.std.proofs.Common.{◌≡◌, ℕ, zero, suc, List, [], ◌∷◌, take, drop, refl, sym, ap, subst}
+use Rattle.std.proofs.Common.{ℕ, zero, suc, List, [], ◌∷◌, take, drop, refl, subst}
 use Rattle.vub_model.specs.declared.party.Party.{Party}
 use Rattle.vub_model.specs.declared.play.Play.{Play}
 use Rattle.vub_model.specs.Service.{Meaning}
 use Rattle.vub_model.specs.World.{World}
 use Rattle.vub_model.specs.RunOf.{party_of, Turn, IsRun, EachTurn, next}
 use Rattle.vub_model.proofs.Turns.{turn-next}
-use Rattle.vub_laws.specs.Stretches.{world_after, world_at}
+use Rattle.vub_laws.specs.Stretches.{world_at}
 
 module _ {V : Type 0} (m : Meaning V) where
   -- a run goes on from the next world

@@ -1,27 +1,22 @@
 -- A take reads the same in two memories that agree where it reads.
-use Rattle.std.proofs.Common.{◌≡◌, ℕ, zero, suc, ◌+◌, ◌*◌, ◌%◌, ◌<◌, ◌≤◌, Bool, true, false, cond, not, ◌&&◌, nat_lt, ◌==◌, List, [], ◌∷◌, ◌++◌, length, Result, Ok, Err, refl, sym, ap, ap₂, subst, ◌∙◌, arith}
+use Rattle.std.proofs.Common.{◌≡◌, ℕ, ◌+◌, Bool, true, false, cond, List, [], ◌∷◌, ◌++◌, Result, Ok, refl, sym, ap, ap₂, subst, ◌∙◌, arith}
 use Rattle.std.specs.Int.{w16, w32, w64}
-use Rattle.std.specs.List.{flat_map}
-use Rattle.vub_mem.specs.declared.region.Region.{Region}
 use Rattle.vub_mem.specs.Memory.{Guest}
 use Rattle.vub_mem.specs.Place.{covers, number_at, bytes_at}
 use Rattle.vub_queue.specs.Chain.{descriptor_at, is_writable, Stands, Links, IsChain, read_part, request_of, segments_of, room_of, chain_of}
-use Rattle.vub_queue.specs.EntryNumber.{minus, index_covers, left_of}
-use Rattle.vub_queue.specs.Function.{took_walk, took_head, look_of, finish_of, took_of, walk_of}
+use Rattle.vub_queue.specs.Function.{took_of}
 use Rattle.vub_queue.specs.Layout.{Table, slot_of, table_of, avail_index_at, avail_slot_at}
 use Rattle.vub_queue.specs.Ring.{Ring}
-use Rattle.vub_queue.specs.Take.{head_of, event_covers, IsEntry, Taken}
+use Rattle.vub_queue.specs.Take.{head_of, IsEntry}
 use Rattle.vub_queue.specs.declared.chain.Chain.{Chain}
 use Rattle.vub_queue.specs.declared.damage.Damage.{Damage}
-use Rattle.vub_queue.specs.declared.damage.Damage.TheVariants.{RingOutside, IndexAhead}
 use Rattle.vub_queue.specs.declared.descriptor.Descriptor.{Descriptor}
 use Rattle.vub_queue.specs.declared.head.Head.{Head}
-use Rattle.vub_queue.specs.declared.head.Head.TheVariants.{Empty, At, Broken}
-use Rattle.vub_queue.specs.declared.took.Took.{Took}
+use Rattle.vub_queue.specs.declared.head.Head.TheVariants.{At}
 use Rattle.vub_queue.specs.declared.took.Took.TheVariants as took
 use Rattle.vub_queue.proofs.Walks.{walks_all, takes_some, IsWalk}
 use Rattle.vub_queue.proofs.Takes.{taken_one}
-use Rattle.vub_model.specs.Written.{Spot, spots_of}
+use Rattle.vub_model.specs.Written.{spots_of}
 use Rattle.vub_laws.specs.Alone.{table_spots, request_spots, walk_reads, head_reads, take_reads}
 use Rattle.vub_laws.proofs.EntriesLeft.{EntryAt, entry-at, head-by, head-is}
 use Rattle.vub_laws.proofs.Agreeing.{Agree, Off, off-part, bytes-same, number-same, Clear, off-clear, clear-left, clear-right}

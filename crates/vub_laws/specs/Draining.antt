@@ -1,7 +1,7 @@
 -- Draining: how much work the workers have left, as a number that each step of a worker lowers while the available
 -- index words stay. The measure is this project's own.
 use Rattle.std.specs.Prelude.{◌≡◌, ℕ, ◌+◌, ◌*◌, ◌-◌, ◌<◌, ◌≤◌, Bool, true, false, ◌&&◌, ◌==◌, not, nat_lt}
-use Rattle.std.specs.Prelude.{if◌then◌else◌, List, [], ◌∷◌, length, Option, Some, None, sum_by}
+use Rattle.std.specs.Prelude.{if◌then◌else◌, List, [], ◌∷◌, length, Option, Some, None, sum_by, slice_set}
 use Rattle.std.specs.List.{AllByRecursion, range_with_len}
 use Rattle.vub_event.specs.declared.event.Event.{Event}
 use Rattle.vub_event.specs.declared.member.Member.{Member}
@@ -24,6 +24,7 @@ use Rattle.vub_model.specs.Work.{has_token}
 use Rattle.vub_model.specs.World.{World, phase_at}
 use Rattle.vub_model.specs.RunOf.{party_of, EachTurn}
 use Rattle.vub_model.specs.Running.{index_word}
+use Rattle.vub_model.specs.Schedule.{Invariant}
 use Rattle.vub_laws.specs.EntriesLeft.{entries_left}
 use Rattle.vub_laws.specs.Stretches.{world_after, world_at, stretch}
 
@@ -117,9 +118,11 @@ pub record IsPlain (g : Wiring) (table : HostTable) : Type 0 where
   pub bells :
       (worker : ℕ) → worker < length g.opened → is_semaphore (event_at table (opened_at g worker).bell) ≡ false
 
--- each turn leaves the events so
-abbrev pub StaysPlain : {V : Type 0} → World V → Party → Play → World V → Type 0
-StaysPlain old p l new = IsPlain new.wiring new.shared.table
+-- at the opening of a run, and after each turn
+pub record EventsArePlain {V : Type 0} (m : Meaning V) (schedule : List ℕ) (plays : List Play)
+    (opening : World V) : Type 0 where
+  pub first : IsPlain opening.wiring opening.shared.table
+  pub later : EachTurn (λ old p l new. IsPlain new.wiring new.shared.table) m schedule plays opening
 
 -- Steps of workers
 
@@ -143,6 +146,15 @@ SameWords old new =
 -- A step of a worker that leaves the index words lowers the measure, whatever guest, control and other workers have left.
 abbrev pub LowersMeasure : {V : Type 0} → World V → Party → Play → World V → Type 0
 LowersMeasure old p l new = is_step p l ≡ 1 → SameWords old new → measure new < measure old
+
+-- Such a step as it is told of one worker: in each world with the schedule invariant and plain events in which the worker
+-- is in this phase and this is shared, the measure falls.
+abbrev pub StepLowers : {V : Type 0} → Wiring → ℕ → Phase → Shared V → Phase → Shared V → Type 0
+StepLowers {V} g worker before old now new =
+    (w : World V) (calm : ℕ → Bool) → w.wiring ≡ g → w.shared ≡ old → phase_at w.phases worker ≡ before →
+    Invariant w calm → IsPlain g old.table →
+    SameWords w (record w { shared = new }) →
+    measure (record w { shared = new; phases = slice_set w.phases worker now }) < measure w
 
 -- no turn changes the index words
 abbrev pub WordsStay : {V : Type 0} → Meaning V → List ℕ → List Play → World V → Type 0

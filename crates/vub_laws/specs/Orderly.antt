@@ -6,14 +6,14 @@ use Rattle.vub_model.specs.declared.play.Play.{Play}
 use Rattle.vub_model.specs.declared.setup.Setup.{Setup}
 use Rattle.vub_model.specs.Opening.{opening, is_registered}
 use Rattle.vub_model.specs.RingRecord.{is_in_flight, limit}
-use Rattle.vub_model.specs.RunOf.{IsRun, IsAtRest, EachTurn}
+use Rattle.vub_model.specs.RunOf.{IsRun, IsAtRest}
 use Rattle.vub_model.specs.Running.{IsRunning, calm_end}
 use Rattle.vub_model.specs.Service.{Meaning}
 use Rattle.vub_model.specs.Shared.{ring_at}
 use Rattle.vub_model.specs.ValidSetup.{IsValid}
 use Rattle.vub_model.specs.World.{World}
 use Rattle.vub_laws.specs.Alone.{IsUndisturbed, IsAsAlone, placings}
-use Rattle.vub_laws.specs.Draining.{Drains, StaysPlain}
+use Rattle.vub_laws.specs.Draining.{Drains, EventsArePlain}
 use Rattle.vub_laws.specs.Stretches.{world_after, world_at, stretch}
 
 -- which queues are calm at a place of a run
@@ -39,7 +39,7 @@ StandsAlone {V} m schedule plays opening calm =
 pub record IsOrderly {V : Type 0} (m : Meaning V) (constants : Constants) (setup : Setup) (v : V)
     (schedule : List ℕ) (plays : List Play) (closing : World V) : Type 0 where
   pub last : closing ≡ world_after m schedule plays (opening constants setup v)
-  pub plain : EachTurn StaysPlain m schedule plays (opening constants setup v)
+  pub plain : EventsArePlain m schedule plays (opening constants setup v)
   pub drains : Drains m schedule plays (opening constants setup v)
   pub alone : StandsAlone m schedule plays (opening constants setup v) (is_registered constants setup)
 

@@ -1,6 +1,6 @@
 -- Where the bytes that different queues touch are disjoint, and the guest stores none of them, no take reads a byte that
 -- another wrote.
-use Rattle.std.specs.Prelude.{◌≢◌, ℕ, Bool, if◌then◌else◌, List, [], ◌∷◌, ◌++◌}
+use Rattle.std.specs.Prelude.{◌≢◌, ℕ, if◌then◌else◌, List, [], ◌∷◌, ◌++◌}
 use Rattle.vub_queue.specs.Layout.{used_event_at}
 use Rattle.vub_model.specs.declared.party.Party.{Party}
 use Rattle.vub_model.specs.declared.party.Party.TheVariants as party
@@ -29,7 +29,7 @@ abbrev pub touched_at : {V : Type 0} → World V → ℕ → Party → Play → 
 touched_at w queue (party.Worker k) l =
     if is_of l (phase_at w.phases k) queue
     then read_by w.shared l (phase_at w.phases k)
-        ++ (written_by w.shared l (phase_at w.phases k) ++ tested_by w.shared l (phase_at w.phases k))
+    ++ (written_by w.shared l (phase_at w.phases k) ++ tested_by w.shared l (phase_at w.phases k))
     else []
 touched_at w queue p l = []
 
