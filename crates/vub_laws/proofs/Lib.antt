@@ -15,3 +15,4 @@ pub mod Stretches
 pub mod Sums
 pub mod Taking
 pub mod Uses
+pub mod Worked

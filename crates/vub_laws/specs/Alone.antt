@@ -68,8 +68,8 @@ if_entry (took.Entry c) serve = serve c
 if_entry took.None serve = []
 if_entry (took.Damaged d) serve = []
 
--- At most so many entries are taken, one after the other, each answered with the reply of this value of the service, and
--- put. Damage ends it, and a put that is refused.
+-- At most so many entries are taken, one after the other, each answered with the reply of this value of the service,
+-- and put. Damage ends it, and a put that is refused.
 abbrev pub alone : {V : Type 0} → Meaning V → V → ℕ → ℕ → memory.Guest → Vring → List Placing
 alone m v queue zero g r = []
 alone m v queue (suc n) g r =
@@ -101,8 +101,8 @@ placings m queue (turn ∷ turns) [] w = []
 placings m queue (turn ∷ turns) (l ∷ plays) w =
     placed_at w queue (party_of turn) l ++ placings m queue turns plays (next m w (party_of turn) l)
 
--- The bytes that a take of an entry reads: the index word, the slot, the descriptors of the chain, and the segments that
--- the driver wrote (virtio 1.2, sections 2.7.5 and 2.7.6)
+-- The bytes that a take of an entry reads: the index word, the slot, the descriptors of the chain, and the segments
+-- that the driver wrote (virtio 1.2, sections 2.7.5 and 2.7.6)
 
 abbrev pub table_spots : List Region → Table → ℕ → List Descriptor → List Spot
 table_spots rs t i [] = []
@@ -198,9 +198,9 @@ SparesQueue queue old p l new = Unit {0}
 abbrev pub KeepsWord : {V : Type 0} → ℕ → World V → Party → Play → World V → Type 0
 KeepsWord queue old p l new = index_word new.shared queue ≡ index_word old.shared queue
 
--- In this run from this world the replies to the queue are those of this value of the service, no take of the queue reads
--- a byte that the guest or a step for another queue wrote, control leaves what serving the queue depends on, and no turn
--- changes its available index word.
+-- In this run from this world the replies to the queue are those of this value of the service, no take of the queue
+-- reads a byte that the guest or a step for another queue wrote, control leaves what serving the queue depends on, and
+-- no turn changes its available index word.
 pub record IsUndisturbed {V : Type 0} (m : Meaning V) (v : V) (queue : ℕ) (turns : List ℕ) (plays : List Play)
     (w : World V) : Type 0 where
   pub replies : AllByRecursion (λ a. a.queue ≡ queue → a.reply ≡ m.reply_of v a.request a.room) (asked m turns plays w)
@@ -211,8 +211,8 @@ pub record IsUndisturbed {V : Type 0} (m : Meaning V) (v : V) (queue : ℕ) (tur
   pub word : EachTurn (KeepsWord queue) m turns plays w
 
 -- What the queue used in the run, with the bytes that its puts wrote and their places, is a front of serving it alone
--- from the first world, and stands in the uses. Where the run ends at rest and the queue is calm and running, it is all of
--- that.
+-- from the first world, and stands in the uses. Where the run ends at rest and the queue is calm and running, it is all
+-- of that.
 pub record IsAsAlone {V : Type 0} (m : Meaning V) (v : V) (queue : ℕ) (turns : List ℕ) (plays : List Play)
     (w z : World V) (calm : ℕ → Bool) : Type 0 where
   pub rest : List Placing

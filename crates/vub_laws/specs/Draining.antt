@@ -143,12 +143,13 @@ SameWords old new =
     (queue : ℕ) → has_addresses (ring_at old.shared queue) ≡ true →
     index_word new.shared queue ≡ index_word old.shared queue
 
--- A step of a worker that leaves the index words lowers the measure, whatever guest, control and other workers have left.
+-- A step of a worker that leaves the index words lowers the measure, whatever guest, control and other workers have
+-- left.
 abbrev pub LowersMeasure : {V : Type 0} → World V → Party → Play → World V → Type 0
 LowersMeasure old p l new = is_step p l ≡ 1 → SameWords old new → measure new < measure old
 
--- Such a step as it is told of one worker: in each world with the schedule invariant and plain events in which the worker
--- is in this phase and this is shared, the measure falls.
+-- Such a step as it is told of one worker: in each world with the schedule invariant and plain events in which the
+-- worker is in this phase and this is shared, the measure falls.
 abbrev pub StepLowers : {V : Type 0} → Wiring → ℕ → Phase → Shared V → Phase → Shared V → Type 0
 StepLowers {V} g worker before old now new =
     (w : World V) (calm : ℕ → Bool) → w.wiring ≡ g → w.shared ≡ old → phase_at w.phases worker ≡ before →
@@ -169,9 +170,10 @@ abbrev pub IsDraining : {V : Type 0} → Meaning V → List ℕ → List Play �
 IsDraining m turns plays w =
     AreDone w → WordsStay m turns plays w → steps turns plays + measure (world_after m turns plays w) ≤ measure w
 
--- In a run each step of a worker that leaves the index words lowers the measure; and from each place at which guest and
--- control are done to any later one, while the index words stay, there are as many steps as it says, at most.
-pub record Drains {V : Type 0} (m : Meaning V) (schedule : List ℕ) (plays : List Play) (opening : World V) : Type 0 where
+-- In a run each step of a worker that leaves the index words lowers the measure; and from each place at which guest
+-- and control are done to any later one, while the index words stay, there are as many steps as it says, at most.
+pub record Drains {V : Type 0} (m : Meaning V) (schedule : List ℕ) (plays : List Play)
+    (opening : World V) : Type 0 where
   pub lowers : EachTurn LowersMeasure m schedule plays opening
   pub ends :
       (place count : ℕ) →

@@ -4,3 +4,4 @@ pub mod EntriesLeft
 pub mod Orderly
 pub mod Stretches
 pub mod Touched
+pub mod Worked

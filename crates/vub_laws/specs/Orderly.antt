@@ -20,8 +20,8 @@ use Rattle.vub_laws.specs.Stretches.{world_after, world_at, stretch}
 abbrev pub calm_at : {V : Type 0} → Meaning V → List ℕ → List Play → World V → (ℕ → Bool) → ℕ → ℕ → Bool
 calm_at m schedule plays opening calm place = calm_end m (take place schedule) (take place plays) opening calm
 
--- A stretch of a run serves the queue as alone with this value of the service, if nothing disturbs the queue in it, and no
--- entry of the queue is in flight where it begins.
+-- A stretch of a run serves the queue as alone with this value of the service, if nothing disturbs the queue in it, and
+-- no entry of the queue is in flight where it begins.
 abbrev pub ServesAsAlone : {V : Type 0} → Meaning V → V → ℕ → List ℕ → List Play → World V → (ℕ → Bool) → Type 0
 ServesAsAlone m v queue turns plays w calm =
     is_in_flight (ring_at w.shared queue).flight ≡ false →

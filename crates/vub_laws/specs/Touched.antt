@@ -1,5 +1,5 @@
--- Where the bytes that different queues touch are disjoint, and the guest stores none of them, no take reads a byte that
--- another wrote.
+-- Where the bytes that different queues touch are disjoint, and the guest stores none of them, no take reads a byte
+-- that another wrote.
 use Rattle.std.specs.Prelude.{◌≢◌, ℕ, if◌then◌else◌, List, [], ◌∷◌, ◌++◌}
 use Rattle.vub_queue.specs.Layout.{used_event_at}
 use Rattle.vub_model.specs.declared.party.Party.{Party}
