@@ -15,8 +15,13 @@ use Rattle.vub_laws.specs.Worked.{echo, one_worker, ring_from, table_from, one_e
 
 pub work-falls : WorkFallsToNothing
 unfolding opening one_worker one_entry ring_from table_from echo turns_of_one plays_of_one place_of queues_of covers number_at bytes_at byte_at poke write_at store_at descriptor_at read_part request_of segments_of room_of took_of look_of walk_of fault_of head_of put_answer put_guest room_covers used_covers write_reply write_used used_event_covers wants_notification looked put_said stored
-work-falls = refl
+work-falls = ((λ e. cc, (λ e. cc, (λ e. cc, (λ e. cc, (refl, (tt, (tt, (tt, (tt, (tt, (refl, (tt, (tt, (tt, tt)))))))))))))), refl)
 
 pub replies-same : RepliesAreTheSame
 unfolding opening one_worker two_queues memory_from ring_from table_from echo signals_first plays_by_number signals_between plays_by_signal place_of queues_of covers number_at bytes_at byte_at poke write_at store_at descriptor_at read_part request_of segments_of room_of took_of look_of walk_of fault_of head_of put_answer put_guest room_covers used_covers write_reply write_used used_event_covers wants_notification looked put_said stored
-replies-same = (refl, refl)
+replies-same = (
+  (λ e. cc, (λ e. cc, (refl, (tt, (tt, (tt, (tt, (tt, (refl, (tt, (tt, (tt, (tt, (tt, tt)))))))))))))),
+  (λ e. cc, (refl, (tt, (tt, (tt, (tt, (tt, (λ e. cc, (refl, (tt, (tt, (tt, (tt, (tt, tt)))))))))))))),
+  refl,
+  refl,
+)

@@ -10,9 +10,9 @@ use Rattle.vub_model.specs.declared.setup.Guest.TheVariants.{Store, Signal}
 use Rattle.vub_model.specs.declared.setup.Object.TheVariants as object
 use Rattle.vub_model.specs.declared.setup.Setup.{Setup}
 use Rattle.vub_model.specs.Opening.{opening}
-use Rattle.vub_model.specs.RunOf.{party_of, next}
+use Rattle.vub_model.specs.RunOf.{party_of, next, EachTurn}
 use Rattle.vub_model.specs.Service.{Meaning}
-use Rattle.vub_model.specs.World.{World}
+use Rattle.vub_model.specs.World.{World, May}
 use Rattle.vub_laws.specs.Draining.{measure}
 use Rattle.vub_laws.specs.Stretches.{world_after}
 
@@ -88,11 +88,17 @@ measures m [] plays w = measure w ∷ []
 measures m (turn ∷ turns) [] w = measure w ∷ []
 measures m (turn ∷ turns) (l ∷ plays) w = measure w ∷ measures m turns plays (next m w (party_of turn) l)
 
+-- each play may be made in its turn
+abbrev pub MayBePlayed : {V : Type 0} → Meaning V → List ℕ → List Play → World V → Type 0
+MayBePlayed m turns plays w = EachTurn (λ old p l new. May old p l) m turns plays w
+
 -- It rises to 23 where the guest publishes and signals, and then falls with each step of the worker, to 0.
 abbrev pub WorkFallsToNothing : Type 0
 WorkFallsToNothing =
-    measures echo turns_of_one plays_of_one (opening (one_worker 1 1) one_entry 0)
-    ≡ 8 ∷ 8 ∷ 8 ∷ 17 ∷ 23 ∷ 22 ∷ 20 ∷ 19 ∷ 18 ∷ 11 ∷ 8 ∷ 7 ∷ 6 ∷ 3 ∷ 0 ∷ []
+    let begins = opening (one_worker 1 1) one_entry 0 in
+    MayBePlayed echo turns_of_one plays_of_one begins
+    × (measures echo turns_of_one plays_of_one begins
+    ≡ 8 ∷ 8 ∷ 8 ∷ 17 ∷ 23 ∷ 22 ∷ 20 ∷ 19 ∷ 18 ∷ 11 ∷ 8 ∷ 7 ∷ 6 ∷ 3 ∷ 0 ∷ [])
 
 -- Two schedules: two queues have an entry each, and the guest signals the second queue's kick and then the first's.
 
@@ -141,5 +147,7 @@ first_use queue reply = record { queue = queue; epoch = 0; number = 0; head = 0;
 abbrev pub RepliesAreTheSame : Type 0
 RepliesAreTheSame =
     let begins = opening (one_worker 2 3) two_queues 0 in
-    ((world_after echo signals_first plays_by_number begins).uses ≡ first_use 0 hello ∷ first_use 1 world ∷ [])
+    MayBePlayed echo signals_first plays_by_number begins
+    × MayBePlayed echo signals_between plays_by_signal begins
+    × ((world_after echo signals_first plays_by_number begins).uses ≡ first_use 0 hello ∷ first_use 1 world ∷ [])
     × ((world_after echo signals_between plays_by_signal begins).uses ≡ first_use 1 world ∷ first_use 0 hello ∷ [])

@@ -1,6 +1,7 @@
 //! Laws of whole runs: each of these calls does nothing, and its contract is the law.
 ghost use Rattle.vub_laws.specs.Orderly.{RunsAreOrderly, SchedulesAgree};
 ghost use Rattle.vub_laws.specs.Touched.{ApartQueuesAreUndisturbed};
+ghost use Rattle.vub_laws.specs.Worked.{RepliesAreTheSame, WorkFallsToNothing};
 
 /// Every run of a valid set-up with fewer turns than the limit on takes is orderly. Each step of a worker that leaves
 /// the available index words lowers the measure, so that no more steps follow than it says once guest and control are
@@ -19,4 +20,15 @@ pub fn schedules_agree<V>()
 /// that the guest or a step for another queue wrote.
 pub fn apart_queues_are_undisturbed<V>()
     ensures { ApartQueuesAreUndisturbed V }
+{}
+
+/// A guest publishes one entry and signals, and the worker serves it in ten steps: what is left to do, worked out turn
+/// by turn, rises to 23 and falls to 0.
+pub fn work_falls_to_nothing()
+    ensures { WorkFallsToNothing }
+{}
+
+/// Two schedules of two queues, worked out: the queues are served in another order, with the same replies.
+pub fn replies_are_the_same()
+    ensures { RepliesAreTheSame }
 {}

@@ -3,4 +3,7 @@
 
 mod laws;
 
-pub use laws::{apart_queues_are_undisturbed, runs_are_orderly, schedules_agree};
+pub use laws::{
+    apart_queues_are_undisturbed, replies_are_the_same, runs_are_orderly, schedules_agree,
+    work_falls_to_nothing,
+};
