@@ -239,6 +239,10 @@ turn-wiring m w p z =
     (λ same. ap (λ x. x.wiring) same)
     (λ l may is. ap (λ x. x.wiring) is ∙ step-wiring m w p l may)
 
+-- what is placed in a turn and behind it
+joined : (xs ys zs a b c : List Placing) → a ≡ xs ++ b → b ≡ ys ++ c → ys ≡ zs → a ≡ (xs ++ zs) ++ c
+joined xs ys zs a b c first rest same = first ∙ ap (λ x. xs ++ x) (rest ∙ ap (λ x. x ++ c) same) ∙ sym (append_assoc xs zs c)
+
 module _ {V : Type 0} (m : Meaning V) (v : V) (q : ℕ) (F : ℕ → ℕ → Type 0) (k : ℕ) where
   along : (turns : List ℕ) (plays : List Play) (w z : World V) → IsSound (length turns) w → ((j : ℕ) → HasWorker w.wiring q j → j ≡ k) → IsRun m turns plays w z → FitsAll m v q F k turns plays w
       → (n : ℕ) (a : Guest) (r : Vring) → WorldState m v q F k w n a r → WorldStepped m v q F k z (placings m q turns plays w) n a r
@@ -254,13 +258,13 @@ module _ {V : Type 0} (m : Meaning V) (v : V) (q : ℕ) (F : ℕ → ℕ → Typ
       let A : World V → Type 0 = λ x. FitsAll m v q F k turns plays x in
       let fits' : FitsAll m v q F k turns plays mid = subst A (sym (turn-next m w p l mid run.1)) (fits-rest m v q F k turn turns l plays w fits) in
       let rest = along turns plays mid z (sound-turn m (length turns) w p l mid sound run.1) only' run.2 fits' one.0 one.1 one.2 one.3 in
-      let now : placings m q turns plays mid ≡ placings m q turns plays (next m w p l) = ap (λ x. placings m q turns plays x) (turn-next m w p l mid run.1) in (
+      let now : placings m q turns plays mid ≡ placings m q turns plays (next m w p l) = ap (λ x. placings m q turns plays x) (turn-next m w p l mid run.1) in
+      (
         rest.0,
         rest.1,
         rest.2,
         rest.3,
-        one.4 ∙ ap (λ x. placed_at w q p l ++ x) (rest.4 ∙ ap (λ x. x ++ alone m v q rest.0 rest.1 rest.2) now)
-            ∙ sym (append_assoc (placed_at w q p l) (placings m q turns plays (next m w p l)) (alone m v q rest.0 rest.1 rest.2)),
+        joined (placed_at w q p l) (placings m q turns plays mid) (placings m q turns plays (next m w p l)) (alone m v q n a r) (alone m v q one.0 one.1 one.2) (alone m v q rest.0 rest.1 rest.2) one.4 rest.4 now,
       )
 
 run-wiring : {V : Type 0} (m : Meaning V) (turns : List ℕ) (plays : List Play) (w z : World V) → IsRun m turns plays w z → z.wiring ≡ w.wiring
