@@ -258,8 +258,7 @@ module _ {V : Type 0} (m : Meaning V) (v : V) (q : ℕ) (F : ℕ → ℕ → Typ
       let A : World V → Type 0 = λ x. FitsAll m v q F k turns plays x in
       let fits' : FitsAll m v q F k turns plays mid = subst A (sym (turn-next m w p l mid run.1)) (fits-rest m v q F k turn turns l plays w fits) in
       let rest = along turns plays mid z (sound-turn m (length turns) w p l mid sound run.1) only' run.2 fits' one.0 one.1 one.2 one.3 in
-      let now : placings m q turns plays mid ≡ placings m q turns plays (next m w p l) = ap (λ x. placings m q turns plays x) (turn-next m w p l mid run.1) in
-      (
+      let now : placings m q turns plays mid ≡ placings m q turns plays (next m w p l) = ap (λ x. placings m q turns plays x) (turn-next m w p l mid run.1) in (
         rest.0,
         rest.1,
         rest.2,

@@ -16,3 +16,4 @@ pub mod Sums
 pub mod Taking
 pub mod Uses
 pub mod Worked
+pub mod Placed

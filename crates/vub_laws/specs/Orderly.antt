@@ -1,7 +1,11 @@
 -- What holds of every run of a valid set-up besides that it is faithful: its work drains, and a queue that nothing
 -- disturbs is served as alone.
-use Rattle.std.specs.Prelude.{◌≡◌, ◌<◌, ℕ, Bool, true, false, List, length, take}
+use Rattle.std.specs.Prelude.{◌≡◌, ◌<◌, ◌≤◌, ℕ, Bool, true, false, List, length, take, sum_by, Ok}
+use Rattle.vub_mem.specs.declared.region.Region.{Region}
+use Rattle.vub_queue.specs.Put.{put_answer}
+use Rattle.vub_queue.specs.Ring.{Ring}
 use Rattle.vub_model.specs.declared.constants.Constants.{Constants}
+use Rattle.vub_model.specs.declared.entry.Entry.{Entry}
 use Rattle.vub_model.specs.declared.play.Play.{Play}
 use Rattle.vub_model.specs.declared.setup.Setup.{Setup}
 use Rattle.vub_model.specs.Opening.{opening, is_registered}
@@ -12,7 +16,7 @@ use Rattle.vub_model.specs.Service.{Meaning}
 use Rattle.vub_model.specs.Shared.{ring_at}
 use Rattle.vub_model.specs.ValidSetup.{IsValid}
 use Rattle.vub_model.specs.World.{World}
-use Rattle.vub_laws.specs.Alone.{IsUndisturbed, IsAsAlone, placings}
+use Rattle.vub_laws.specs.Alone.{IsUndisturbed, IsAsAlone, placing, placings}
 use Rattle.vub_laws.specs.Draining.{Drains, EventsArePlain}
 use Rattle.vub_laws.specs.Stretches.{world_after, world_at, stretch}
 
@@ -69,3 +73,12 @@ SchedulesAgree V =
     IsAsAlone m v queue turns plays w y calm → IsServedOut queue y calm →
     IsAsAlone m v queue others played x z calm' → IsServedOut queue z calm' →
     placings m queue turns plays w ≡ placings m queue others played x
+
+-- A placing pairs each byte with its place, one for one: where the put is not refused, and the reply is no longer than
+-- the chain's segments hold.
+abbrev pub PlacesEachByte : Type 0
+PlacesEachByte =
+    (regions : List Region) (r : Ring) (e : Entry) (reply : List ℕ) (wanted told : Bool) →
+    put_answer regions r e.chain reply wanted ≡ Ok told →
+    length reply ≤ sum_by (λ s. s.len) e.chain.segments →
+    length (placing regions r e reply).spots ≡ length (placing regions r e reply).bytes

@@ -1,5 +1,5 @@
 //! Laws of whole runs: each of these calls does nothing, and its contract is the law.
-ghost use Rattle.vub_laws.specs.Orderly.{RunsAreOrderly, SchedulesAgree};
+ghost use Rattle.vub_laws.specs.Orderly.{PlacesEachByte, RunsAreOrderly, SchedulesAgree};
 ghost use Rattle.vub_laws.specs.Touched.{ApartQueuesAreUndisturbed};
 ghost use Rattle.vub_laws.specs.Worked.{RepliesAreTheSame, WorkFallsToNothing};
 
@@ -14,6 +14,11 @@ pub fn runs_are_orderly<V>()
 /// with the same replies and write the same bytes at the same places, whatever their schedules.
 pub fn schedules_agree<V>()
     ensures { SchedulesAgree V }
+{}
+
+/// What is recorded of a put has a place for each byte, where the put is not refused and the reply fits its room.
+pub fn each_byte_has_its_place()
+    ensures { PlacesEachByte }
 {}
 
 /// Where different queues touch different bytes, and the guest stores none of them, no take of a queue reads a byte
