@@ -25,8 +25,8 @@ unfoldable pub one_worker : ℕ → ℕ → Constants
 one_worker queues mask =
     record { queues = queues; max = 256; features = 0; protocol = 0; masks = mask ∷ []; exits = None ∷ [] }
 
--- A queue of two descriptors in 96 bytes of memory from a base on: the table at 0, the available ring at 32, the used ring
--- at 44, a request of five bytes at 72, and room for sixteen at 80.
+-- A queue of two descriptors in 96 bytes of memory from a base on: the table at 0, the available ring at 32, the used
+-- ring at 44, a request of five bytes at 72, and room for sixteen at 80.
 
 unfoldable pub ring_from : ℕ → ℕ → ℕ → ℕ → GivenRing
 ring_from base queue kick call =
