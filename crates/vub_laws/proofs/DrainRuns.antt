@@ -116,7 +116,7 @@ module _ {V : Type 0} (m : Meaning V) where
 pub opening-goes : {V : Type 0} (constants : Constants) (setup : Setup) (v : V) → IsValid constants setup → (more : ℕ) → more < limit → Goes more (opening constants setup v)
 opening-goes constants setup v valid more short = record { sound = opening-sound constants setup v valid more short; plain = opening-plain constants setup v }
 
--- A worker's step lowers the measure, as it is told of the worker alone.
+-- a worker's step lowers the measure, as it is told of the worker alone
 pub step-lowers : {V : Type 0} (m : Meaning V) (g : Wiring) (k : ℕ) (old : Shared V) (before : Phase) (l : Play) (z : Local V) → MayWork g k old before l → z ≡ after_work m g k old before l → StepLowers g k before old z.phase z.shared
 step-lowers {V} m g k old before l z may is w calm wired same stands i plain words =
     let G : Wiring → Shared V → Phase → Local V → Type 0 = λ g old before z. MayWork g k old before l → IsPlain g old.table → SameWords w (record w { shared = z.shared }) → measure (record w { shared = z.shared; phases = slice_set w.phases k z.phase }) < measure w in

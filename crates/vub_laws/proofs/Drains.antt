@@ -293,7 +293,7 @@ module _ {V : Type 0} (m : Meaning V) (w : World V) (calm : ℕ → Bool) (i : I
 
   poll-own : (object : ℕ) → MayWork g j h Idle (play.Poll object) → Own (after_work m g j h Idle (play.Poll object)) Idle 0 1
   poll-own object ready =
-      let found = polls h.table.objects (ms j) object (plain.asks (opened_at g j).list) plain.open_ended ready in
+      let found = polls h.table.objects (ms j) object (plain.asks (opened_at g j).list) plain.none_hung_up ready in
       let z = after_work m g j h Idle (play.Poll object) in
       quiet-own z Idle 0 1 still (λ q. refl)
       (omega (arith, poll-falls n (ms j) h.table object _ Idle (λ o. refl) found.member found.its found.above))

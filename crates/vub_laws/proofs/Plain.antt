@@ -92,7 +92,7 @@ module _ (g : Wiring) where
   plain-event : (t : HostTable) (o : ℕ) (e : Option Event) → is_hung_up e ≡ is_hung_up (event_at t o) → is_semaphore e ≡ is_semaphore (event_at t o) → IsPlain g t → IsPlain g (with_event t o e)
   plain-event t o e hung semaphore p = record {
     asks = p.asks;
-    open_ended = λ x. with-kept is_hung_up t o e hung x ∙ p.open_ended x;
+    none_hung_up = λ x. with-kept is_hung_up t o e hung x ∙ p.none_hung_up x;
     bells = λ k low. with-kept is_semaphore t o e semaphore (opened_at g k).bell ∙ p.bells k low;
   }
 
@@ -125,7 +125,7 @@ module _ (g : Wiring) where
   plain-members : (t : HostTable) (l : ℕ) (new : List Member) → AllByRecursion AsksForIn new → IsPlain g t → IsPlain g (with_members t l new)
   plain-members t l new all p = record {
     asks = λ x. set-lists t.lists l x new all (p.asks x);
-    open_ended = p.open_ended;
+    none_hung_up = p.none_hung_up;
     bells = p.bells;
   }
 
@@ -282,7 +282,7 @@ opening-plain constants setup v =
     let size : length g.opened ≡ length constants.masks = length-map-range_with_len (λ w. opened_worker count constants.exits w) 0 (length constants.masks) in
     plain-all g setup.rings (before_rings constants setup v) (record {
       asks = λ l. opened-asks constants.queues g.opened l;
-      open_ended = λ o. no-hang setup.objects constants.masks o;
+      none_hung_up = λ o. no-hang setup.objects constants.masks o;
       bells = λ j low.
           let below : j < length constants.masks = omega (arith, low, size) in
           let is : opened_at g j ≡ opened_worker count constants.exits j = get_or-map-range_with_len (λ w. opened_worker count constants.exits w) 0 (length constants.masks) j j no_worker below (omega arith) in

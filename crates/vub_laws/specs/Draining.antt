@@ -114,7 +114,7 @@ is_semaphore (Some e) = e.semaphore
 
 pub record IsPlain (g : Wiring) (table : HostTable) : Type 0 where
   pub asks : (list : ℕ) → AllByRecursion AsksForIn (members_at table list)
-  pub open_ended : (object : ℕ) → is_hung_up (event_at table object) ≡ false
+  pub none_hung_up : (object : ℕ) → is_hung_up (event_at table object) ≡ false
   pub bells :
       (worker : ℕ) → worker < length g.opened → is_semaphore (event_at table (opened_at g worker).bell) ≡ false
 
