@@ -1,0 +1,7 @@
+pub mod Alone
+pub mod Draining
+pub mod EntriesLeft
+pub mod Orderly
+pub mod Stretches
+pub mod Touched
+pub mod Worked

@@ -1,0 +1,9 @@
+//! Laws over whole runs of the machine: work drains, and a queue that nothing disturbs is served as alone.
+#![tactic(auto)]
+
+mod laws;
+
+pub use laws::{
+    apart_queues_are_undisturbed, each_byte_has_its_place, replies_are_the_same, runs_are_orderly,
+    schedules_agree, work_falls_to_nothing,
+};
