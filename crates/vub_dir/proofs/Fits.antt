@@ -1,5 +1,6 @@
 -- No reply is longer than its room.
-use Rattle.std.proofs.Common.{◌≡◌, ◌∙◌, ℕ, ◌+◌, ◌≤◌, List, [], ◌∷◌, Bool, true, false, cond, nat_le, length, Result, Ok, Err, refl, ap, arith, length-append}
+use Rattle.std.proofs.Common.{◌≡◌, ◌∙◌, ℕ, ◌+◌, ◌≤◌, List, [], ◌∷◌, Bool, true, false, cond, nat_le, length, Result, Ok}
+use Rattle.std.proofs.Common.{Err, refl, ap, arith, length-append}
 use Rattle.vub_dir.specs.declared.fuse.TheConstants.{EIO}
 use Rattle.vub_dir.specs.Node.{Node}
 use Rattle.vub_dir.specs.declared.layout.Field.TheVariants.{U32, U64}

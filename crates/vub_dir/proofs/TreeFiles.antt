@@ -1,5 +1,6 @@
 -- What the tree of a list of entries has: the files of the list, and its names where they are listed.
-use Rattle.std.proofs.Common.{◌≡◌, ◌∙◌, ℕ, ◌+◌, ◌-◌, ◌==◌, List, [], ◌∷◌, ◌++◌, Bool, true, false, cond, length, map, Option, Some, None, refl, sym, ap, append_assoc, slice_get}
+use Rattle.std.proofs.Common.{◌≡◌, ◌∙◌, ℕ, ◌+◌, ◌-◌, ◌==◌, List, [], ◌∷◌, ◌++◌, Bool, true, false, cond, length, map}
+use Rattle.std.proofs.Common.{Option, Some, None, refl, sym, ap, append_assoc, slice_get}
 use Rattle.std.proofs.Math.Seq.{map-set_same}
 use Rattle.std.proofs.lemmas.Option.{get_or_from_slice_get}
 use Rattle.vub_dir.specs.declared.entry.TreeEntry.{TreeEntry}

@@ -1,5 +1,7 @@
 -- Where the names of a list of entries stand in its tree.
-use Rattle.std.proofs.Common.{◌≡◌, ◌∙◌, ◌≢◌, ℕ, suc, zero, ◌+◌, ◌-◌, ◌<◌, ◌==◌, ◌⊎◌, inl, inr, List, [], ◌∷◌, ◌++◌, Bool, true, false, not, ◌||◌, cond, length, take, Option, Some, None, Result, Ok, is_ok, nat_le, refl, sym, ap, subst, arith, slice_get, length-append}
+use Rattle.std.proofs.Common.{◌≡◌, ◌∙◌, ◌≢◌, ℕ, suc, zero, ◌+◌, ◌-◌, ◌<◌, ◌==◌, ◌⊎◌, inl, inr, List, [], ◌∷◌, ◌++◌}
+use Rattle.std.proofs.Common.{Bool, true, false, not, ◌||◌, cond, length, take, Option, Some, None, Result, Ok, is_ok}
+use Rattle.std.proofs.Common.{nat_le, refl, sym, ap, subst, arith, slice_get, length-append}
 use Rattle.std.proofs.lemmas.Bool.{eqb-true}
 use Rattle.std.proofs.lemmas.List.{length-set}
 use Rattle.std.specs.Option.{option_or}
@@ -12,8 +14,10 @@ use Rattle.vub_dir.specs.declared.entry.TreeError.TheVariants.{Name, Twice, TooB
 use Rattle.vub_dir.specs.Node.{Node}
 use Rattle.vub_dir.specs.declared.node.Node.TheVariants.{Directory, File}
 use Rattle.vub_dir.specs.Names.{Entry, name_cmp, find_name, put_name}
-use Rattle.vub_dir.specs.Tree.{node_at, child_of, child_in_some, or_missing, names_in, names_of, put_child, with_node, named, name_in_node}
-use Rattle.vub_dir.specs.Building.{new_node, with_entry, with_entries, fault_of, fault_among, is_name, is_past, tree_of, first_fault, IsListed}
+use Rattle.vub_dir.specs.Tree.{node_at, child_of, child_in_some, or_missing, names_in, names_of, put_child, with_node}
+use Rattle.vub_dir.specs.Tree.{named, name_in_node}
+use Rattle.vub_dir.specs.Building.{new_node, with_entry, with_entries, fault_of, fault_among, is_name, is_past, tree_of}
+use Rattle.vub_dir.specs.Building.{first_fault, IsListed}
 use Rattle.vub_dir.specs.declared.fuse.TheConstants.{GREATEST_COUNT}
 use Rattle.vub_dir.proofs.Places.{get_set_other, get_set_same, get_append, get_append_one}
 use Rattle.vub_dir.proofs.NameLaws.{same_name, find_put_same, find_put_other}

@@ -1,5 +1,6 @@
 -- The tree of a list of entries, and what refuses a list.
-use Rattle.std.specs.Prelude.{◌≡◌, ℕ, ◌+◌, ◌-◌, ◌==◌, Bool, false, not, ◌&&◌, ◌||◌, nat_le, nat_lt, if◌then◌else◌, List, [], ◌∷◌, ◌++◌, length, Option, Some, None, is_ok, slice_get, slice_index}
+use Rattle.std.specs.Prelude.{◌≡◌, ℕ, ◌+◌, ◌-◌, ◌==◌, Bool, false, not, ◌&&◌, ◌||◌, nat_le, nat_lt, if◌then◌else◌, List}
+use Rattle.std.specs.Prelude.{[], ◌∷◌, ◌++◌, length, Option, Some, None, is_ok, slice_get, slice_index}
 use Rattle.std.specs.List.{list_all}
 use Rattle.std.specs.Option.{option_or}
 use Rattle.vub_dir.specs.declared.fuse.TheConstants.{GREATEST_FILE, GREATEST_COUNT, GREATEST_DEPTH, GREATEST_NAME}
@@ -33,7 +34,8 @@ is_name name = is_name_length name && are_name_bytes name && not (is_dots name)
 abbrev pub depth_at : List ℕ → ℕ → ℕ
 depth_at depths n = if n == 0 then 0 else slice_index depths (n - 1)
 
--- how deep an entry is: one deeper than the directory that it is in. The depth of a file is not asked for, and counts as 0
+-- how deep an entry is: one deeper than the directory that it is in. The depth of a file is not asked for, and counts
+-- as 0
 abbrev pub depth_in : List ℕ → ℕ → Option (List ℕ) → ℕ
 depth_in depths parent (Some bytes) = 0
 depth_in depths parent None = depth_at depths parent + 1
@@ -76,7 +78,8 @@ with_entries nodes (e ∷ es) = with_entries (with_entry nodes e) es
 -- why the first entry that can't join can't, if there is one
 unfoldable pub fault_among : List Node → List ℕ → List TreeEntry → Option TreeError
 fault_among nodes depths [] = None
-fault_among nodes depths (e ∷ es) = option_or (fault_of nodes depths e) (fault_among (with_entry nodes e) (depths ++ depth_of depths e ∷ []) es)
+fault_among nodes depths (e ∷ es) =
+    option_or (fault_of nodes depths e) (fault_among (with_entry nodes e) (depths ++ depth_of depths e ∷ []) es)
 
 -- the tree of a list of entries
 unfoldable pub tree_of : List TreeEntry → List Node

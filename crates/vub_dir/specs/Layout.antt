@@ -1,6 +1,7 @@
 -- Layouts: numbers in little-endian order, one after the other (the structures of linux/fuse.h).
-use Rattle.std.specs.Prelude.{ℕ, ◌+◌, List, [], ◌∷◌, ◌++◌, slice_index}
-use Rattle.std.specs.Int.{w16, w32, w64, to_le_bytes, from_le_bytes}
+use Rattle.std.specs.Prelude.{ℕ, List, [], ◌∷◌, ◌++◌, drop}
+use Rattle.std.specs.Int.{w16, w32, w64, to_le_bytes}
+use Rattle.byteorder.specs.Endian.{little_number}
 use Rattle.vub_dir.specs.declared.layout.Field.{Field}
 use Rattle.vub_dir.specs.declared.layout.Field.TheVariants.{U16, U32, U64}
 
@@ -15,14 +16,10 @@ unfoldable pub fields_bytes : List Field → List ℕ
 fields_bytes [] = []
 fields_bytes (f ∷ fs) = field_bytes f ++ fields_bytes fs
 
--- the number in the 4 bytes from place at on; a byte past the end counts as 0
+-- the number in the 4 bytes from place at on, the least byte first; a byte past the end counts as 0
 unfoldable pub u32_at : List ℕ → ℕ → ℕ
-u32_at bytes at =
-    from_le_bytes w32 (slice_index bytes at ∷ slice_index bytes (at + 1) ∷ slice_index bytes (at + 2) ∷ slice_index bytes (at + 3) ∷ [])
+u32_at bytes at = little_number 4 (drop at bytes)
 
 -- the number in the 8 bytes from place at on
 unfoldable pub u64_at : List ℕ → ℕ → ℕ
-u64_at bytes at =
-    from_le_bytes w64
-    (slice_index bytes at ∷ slice_index bytes (at + 1) ∷ slice_index bytes (at + 2) ∷ slice_index bytes (at + 3)
-    ∷ slice_index bytes (at + 4) ∷ slice_index bytes (at + 5) ∷ slice_index bytes (at + 6) ∷ slice_index bytes (at + 7) ∷ [])
+u64_at bytes at = little_number 8 (drop at bytes)

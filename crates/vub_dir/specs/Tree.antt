@@ -1,6 +1,7 @@
--- A tree: a finite map from numbers to directories and files. The nodes are numbered from 1, which is the root, without a
--- gap; so the map is the list of its nodes.
-use Rattle.std.specs.Prelude.{ℕ, ◌-◌, ◌==◌, if◌then◌else◌, List, Option, Some, None, Result, Ok, Err, slice_get, slice_set}
+-- A tree: a finite map from numbers to directories and files. The nodes are numbered from 1, which is the root, without
+-- a gap; so the map is the list of its nodes.
+use Rattle.std.specs.Prelude.{ℕ, ◌-◌, ◌==◌, if◌then◌else◌, List, Option, Some, None, Result, Ok, Err, slice_get}
+use Rattle.std.specs.Prelude.{slice_set}
 use Rattle.vub_dir.specs.declared.fuse.TheConstants.{ENOENT, ENOTDIR, EISDIR, DT_REG}
 use Rattle.vub_dir.specs.Node.{Node}
 use Rattle.vub_dir.specs.declared.node.Node.TheVariants.{Directory, File}

@@ -1,22 +1,29 @@
 //! The answers to the requests, opcode by opcode: each a reply's body or the number of an error, as it fits the room.
-ghost use Rattle.std.specs.Prelude.{◌≡◌, ◌+◌, ◌≤◌, ◌<◌, ◌==◌, ◌++◌, nat_lt, Some, None, Ok, length, IfOk, IfSome, IfNone, IsTrue};
+ghost use Rattle.std.specs.Prelude.{◌≡◌, ◌+◌, ◌≤◌, ◌<◌, ◌==◌, ◌++◌, nat_lt, Some, None, Ok, length};
+ghost use Rattle.std.specs.Prelude.{IfOk, IfSome, IfNone, IsTrue};
 ghost use Rattle.std.specs.List.{position};
 ghost use Rattle.std.specs.Option.{option_copied};
 ghost use Rattle.vub_dir.specs.Attributes.{attribute_fields};
-ghost use Rattle.vub_dir.specs.Directory.{init_fields, init_of, entry_at, entry_of, lookup_of, attributes_at, getattr_of, open_of, read_of, size_refusal, write_refusal, write_of, readdir_of, answer_of, succeeds, data_in, offset_in};
+ghost use Rattle.vub_dir.specs.Directory.{init_fields, init_of, entry_at, entry_of, lookup_of, attributes_at};
+ghost use Rattle.vub_dir.specs.Directory.{getattr_of};
+ghost use Rattle.vub_dir.specs.Directory.{open_of, read_of, size_refusal, write_refusal, write_of, readdir_of};
+ghost use Rattle.vub_dir.specs.Directory.{answer_of};
+ghost use Rattle.vub_dir.specs.Directory.{succeeds, data_in, offset_in};
 ghost use Rattle.vub_dir.specs.Layout.{fields_bytes};
-ghost use Rattle.vub_dir.specs.Replies.{fitted};
+ghost use Rattle.vub_dir.specs.Replies.{IsFitted};
 ghost use Rattle.vub_dir.specs.Requests.{name_in};
 
 use crate::fuse::{
     EFBIG, EINVAL, ENOENT, ENOSYS, EPROTO, FUSE_ATTR_OUT_SIZE, FUSE_ENTRY_OUT_SIZE, FUSE_GETATTR,
-    FUSE_INIT, FUSE_KERNEL_MINOR_VERSION, FUSE_KERNEL_VERSION, FUSE_LOOKUP, FUSE_OPEN, FUSE_READ,
-    FUSE_READDIR, FUSE_WRITE, GREATEST_FILE, GREATEST_WRITE,
+    FUSE_INIT, FUSE_INIT_IN_SIZE, FUSE_KERNEL_MINOR_VERSION, FUSE_KERNEL_VERSION, FUSE_LOOKUP,
+    FUSE_OPEN, FUSE_OPEN_IN_SIZE, FUSE_OUT_HEADER_SIZE, FUSE_READ, FUSE_READ_IN_SIZE, FUSE_READDIR,
+    FUSE_WRITE, FUSE_WRITE_IN_SIZE, FUSE_WRITE_OUT_SIZE, GREATEST_FILE, GREATEST_WRITE,
 };
-use crate::layout::{Field, bytes_after, u32_in, u64_in};
+use crate::layout::{Field, bytes_after, u32_in};
 use crate::listing::put_entries;
 use crate::names::Names;
 use crate::node::Node;
+use crate::part::{offset_of, size_of};
 use crate::slot::Slot;
 use crate::tree::Tree;
 use std::alloc::Global;
@@ -32,7 +39,7 @@ pub(crate) fn answer(
     number: u64,
     body: &[u8],
 ) -> Result<Bytes, OutOfMemory>
-    ensures { IfOk result (λ reply. reply ≡ fitted slot.room slot.unique (answer_of tree.now opcode number body.now)) }
+    ensures { IfOk result (IsFitted slot (answer_of tree.now opcode number body.now)) }
 {
     match opcode {
         FUSE_INIT => init(alloc, slot, body),
@@ -49,9 +56,9 @@ pub(crate) fn answer(
 /// INIT: the versions must agree, and the greatest WRITE is told.
 #[tactic(auto, unfolding(crate::specs::Directory::init_of))]
 fn init(alloc: Global, slot: Slot, body: &[u8]) -> Result<Bytes, OutOfMemory>
-    ensures { IfOk result (λ reply. reply ≡ fitted slot.room slot.unique (init_of body.now)) }
+    ensures { IfOk result (IsFitted slot (init_of body.now)) }
 {
-    if body.len() < 16 {
+    if body.len() < FUSE_INIT_IN_SIZE {
         return slot.refuse(alloc, EINVAL);
     }
     if u32_in(body, 0) != FUSE_KERNEL_VERSION {
@@ -95,7 +102,7 @@ fn lookup(
     number: u64,
     body: &[u8],
 ) -> Result<Bytes, OutOfMemory>
-    ensures { IfOk result (λ reply. reply ≡ fitted slot.room slot.unique (lookup_of tree.now number body.now)) }
+    ensures { IfOk result (IsFitted slot (lookup_of tree.now number body.now)) }
 {
     match name_of(body) {
         None => slot.refuse(alloc, EINVAL),
@@ -130,7 +137,7 @@ fn entry(
     tree: &Tree,
     child: Result<u64, u32>,
 ) -> Result<Bytes, OutOfMemory>
-    ensures { IfOk result (λ reply. reply ≡ fitted slot.room slot.unique (entry_of tree.now child)) }
+    ensures { IfOk result (IsFitted slot (entry_of tree.now child)) }
 {
     match child {
         Err(errno) => slot.refuse(alloc, errno),
@@ -151,7 +158,8 @@ fn with_attributes(
     node: &Node<Names>,
 ) -> Result<Bytes, OutOfMemory>
     requires { size ≡ length (fields_bytes head.now ++ fields_bytes (attribute_fields number node.now)) }
-    ensures { IfOk result (λ reply. reply ≡ fitted slot.room slot.unique (Ok (fields_bytes head.now ++ fields_bytes (attribute_fields number node.now)))) }
+    ensures { IfOk result
+        (IsFitted slot (Ok (fields_bytes head.now ++ fields_bytes (attribute_fields number node.now)))) }
 {
     slot.succeed_with(alloc, size, head, &node.attributes(number))
 }
@@ -163,7 +171,7 @@ fn entry_of(
     number: u64,
     node: &Node<Names>,
 ) -> Result<Bytes, OutOfMemory>
-    ensures { IfOk result (λ reply. reply ≡ fitted slot.room slot.unique (entry_at number (Some node.now))) }
+    ensures { IfOk result (IsFitted slot (entry_at number (Some node.now))) }
 {
     let fields = [
         Field::U64(number),
@@ -179,7 +187,7 @@ fn entry_of(
 /// GETATTR: the attributes of a node (`struct fuse_attr_out`).
 #[tactic(auto, unfolding(crate::specs::Directory::getattr_of))]
 fn getattr(alloc: Global, slot: Slot, tree: &Tree, number: u64) -> Result<Bytes, OutOfMemory>
-    ensures { IfOk result (λ reply. reply ≡ fitted slot.room slot.unique (getattr_of tree.now number)) }
+    ensures { IfOk result (IsFitted slot (getattr_of tree.now number)) }
 {
     match tree.node(number) {
         None => slot.refuse(alloc, ENOENT),
@@ -194,7 +202,7 @@ fn attributes(
     number: u64,
     node: &Node<Names>,
 ) -> Result<Bytes, OutOfMemory>
-    ensures { IfOk result (λ reply. reply ≡ fitted slot.room slot.unique (attributes_at number (Some node.now))) }
+    ensures { IfOk result (IsFitted slot (attributes_at number (Some node.now))) }
 {
     let fields = [Field::U64(0), Field::U32(0), Field::U32(0)];
     with_attributes(alloc, slot, FUSE_ATTR_OUT_SIZE, &fields, number, node)
@@ -209,9 +217,9 @@ fn open_file(
     number: u64,
     body: &[u8],
 ) -> Result<Bytes, OutOfMemory>
-    ensures { IfOk result (λ reply. reply ≡ fitted slot.room slot.unique (open_of tree.now number body.now)) }
+    ensures { IfOk result (IsFitted slot (open_of tree.now number body.now)) }
 {
-    if body.len() < 8 {
+    if body.len() < FUSE_OPEN_IN_SIZE {
         return slot.refuse(alloc, EINVAL);
     }
     match tree.file(number) {
@@ -229,14 +237,14 @@ fn read(
     number: u64,
     body: &[u8],
 ) -> Result<Bytes, OutOfMemory>
-    ensures { IfOk result (λ reply. reply ≡ fitted slot.room slot.unique (read_of tree.now number body.now)) }
+    ensures { IfOk result (IsFitted slot (read_of tree.now number body.now)) }
 {
-    if body.len() < 40 {
+    if body.len() < FUSE_READ_IN_SIZE {
         return slot.refuse(alloc, EINVAL);
     }
     match tree.file(number) {
         Err(errno) => slot.refuse(alloc, errno),
-        Ok(content) => slot.succeed(alloc, content.part(u64_in(body, 8), u32_in(body, 16))),
+        Ok(content) => slot.succeed(alloc, content.part(offset_of(body), size_of(body))),
     }
 }
 
@@ -273,14 +281,14 @@ pub(crate) fn refusal_of_write(tree: &Tree, number: u64, body: &[u8]) -> Option<
     ensures long { IfNone result (40 ≤ length body.now) }
     ensures within { IfNone result (offset_in body.now + length (data_in body.now) ≤ GREATEST_FILE) }
 {
-    if body.len() < 40 {
+    if body.len() < FUSE_WRITE_IN_SIZE {
         return Some(EINVAL);
     }
     match tree.file(number) {
         Err(errno) => Some(errno),
         Ok(_) => {
-            let count = bytes_after(body, 40).len();
-            refusal_of_size(u64_in(body, 8), u32_in(body, 16), count)
+            let count = bytes_after(body, FUSE_WRITE_IN_SIZE).len();
+            refusal_of_size(offset_of(body), size_of(body), count)
         }
     }
 }
@@ -293,7 +301,7 @@ pub(crate) fn write_succeeds(tree: &Tree, number: u64, body: &[u8], room: u32) -
 {
     match refusal_of_write(tree, number, body) {
         Some(_) => false,
-        None => room >= 24,
+        None => FUSE_OUT_HEADER_SIZE + FUSE_WRITE_OUT_SIZE <= room as usize,
     }
 }
 
@@ -306,11 +314,11 @@ fn write(
     number: u64,
     body: &[u8],
 ) -> Result<Bytes, OutOfMemory>
-    ensures { IfOk result (λ reply. reply ≡ fitted slot.room slot.unique (write_of tree.now number body.now)) }
+    ensures { IfOk result (IsFitted slot (write_of tree.now number body.now)) }
 {
     match refusal_of_write(tree, number, body) {
         Some(errno) => slot.refuse(alloc, errno),
-        None => slot.succeed_fields(alloc, &[Field::U32(u32_in(body, 16)), Field::U32(0)]),
+        None => slot.succeed_fields(alloc, &[Field::U32(size_of(body)), Field::U32(0)]),
     }
 }
 
@@ -323,22 +331,22 @@ fn readdir(
     number: u64,
     body: &[u8],
 ) -> Result<Bytes, OutOfMemory>
-    ensures { IfOk result (λ reply. reply ≡ fitted slot.room slot.unique (readdir_of tree.now number body.now)) }
+    ensures { IfOk result (IsFitted slot (readdir_of tree.now number body.now)) }
 {
-    if body.len() < 40 {
+    if body.len() < FUSE_READ_IN_SIZE {
         return slot.refuse(alloc, EINVAL);
     }
     match tree.names(number) {
         Err(errno) => slot.refuse(alloc, errno),
         Ok(names) => {
-            let offset = u64_in(body, 8);
+            let offset = offset_of(body);
             let mut out = Vec::new(alloc);
             put_entries(
                 &mut out,
                 tree,
                 names.from_place(offset),
                 offset,
-                u32_in(body, 16),
+                size_of(body),
             )?;
             slot.succeed(alloc, &out)
         }

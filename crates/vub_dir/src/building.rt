@@ -1,5 +1,8 @@
-ghost use Rattle.std.specs.Prelude.{◌≡◌, ◌+◌, ◌<◌, ◌++◌, ◌∷◌, ◌⊎◌, [], false, Some, None, Ok, ℕ, List, length, is_ok, map, take, slice_get, IfOk, IfErr, OnOk};
-ghost use Rattle.vub_dir.specs.Building.{IsListed, are_name_bytes, content_of, depth_at, depth_of, fault_of, first_fault, is_dots, is_name, is_name_length, is_past, new_node, tree_of, with_entry};
+ghost use Rattle.std.specs.Prelude.{◌≡◌, ◌+◌, ◌<◌, ◌++◌, ◌∷◌, ◌⊎◌, [], false, Some, None, Ok, ℕ, List, length, is_ok};
+ghost use Rattle.std.specs.Prelude.{map, take, slice_get, IfOk, IfErr, OnOk};
+ghost use Rattle.vub_dir.specs.Building.{IsListed, are_name_bytes, content_of, depth_at, depth_of, fault_of};
+ghost use Rattle.vub_dir.specs.Building.{first_fault, is_dots, is_name, is_name_length, is_past, new_node, tree_of};
+ghost use Rattle.vub_dir.specs.Building.{with_entry};
 ghost use Rattle.vub_dir.specs.Tree.{child_of, name_in_node, names_of, put_child};
 ghost use Rattle.vub_dir.specs.Names.{Entry};
 ghost use Rattle.vub_dir.specs.declared.entry.TreeEntry.{TreeEntry};
@@ -30,8 +33,11 @@ impl Tree {
         // what such a tree has: the files as listed; under its name each entry whose parent is a directory among the
         // entries before it; and no other name
         ensures files { IfOk result (λ tree. map content_of tree ≡ None ∷ map (λ e. e.file) entries.now) }
-        ensures named { IfOk result (λ tree. (i : ℕ) (e : TreeEntry) (names : List Entry) → slice_get entries.now i ≡ Some e → names_of (tree_of (take i entries.now)) e.parent ≡ Ok names → child_of tree e.parent e.name ≡ Ok (i + 2)) }
-        ensures only { IfOk result (λ tree. (p : ℕ) (q : List ℕ) (c : ℕ) → child_of tree p q ≡ Ok c → IsListed entries.now p q c) }
+        ensures named { IfOk result (λ tree. (i : ℕ) (e : TreeEntry) (names : List Entry) →
+            slice_get entries.now i ≡ Some e → names_of (tree_of (take i entries.now)) e.parent ≡ Ok names →
+            child_of tree e.parent e.name ≡ Ok (i + 2)) }
+        ensures only { IfOk result (λ tree. (p : ℕ) (q : List ℕ) (c : ℕ) →
+            child_of tree p q ≡ Ok c → IsListed entries.now p q c) }
     {
         match build(alloc, entries) {
             Ok(tree) => Ok(tree),

@@ -2,9 +2,10 @@ ghost use Rattle.std.specs.Prelude.{◌≡◌, ◌≤◌, length, IfOk, IsOkAnd,
 ghost use Rattle.vub_dir.specs.Directory.{next_tree, reply_of, is_write};
 
 use crate::answers::{answer, write_succeeds};
-use crate::fuse::{EINVAL, FUSE_FORGET, FUSE_IN_HEADER_SIZE, FUSE_WRITE};
+use crate::fuse::{EINVAL, FUSE_FORGET, FUSE_IN_HEADER_SIZE, FUSE_WRITE, FUSE_WRITE_IN_SIZE};
 use crate::header::header_of;
-use crate::layout::{bytes_after, u64_in};
+use crate::layout::bytes_after;
+use crate::part::offset_of;
 use crate::slot::Slot;
 use crate::tree::Tree;
 use std::alloc::{AllocError, Global};
@@ -121,6 +122,6 @@ fn carry_out(tree: &mut Tree, request: &[u8], room: u32) -> Result<(), AllocErro
     if !write_succeeds(tree, header.node, body, room) {
         return Ok(());
     }
-    let offset = u64_in(body, 8) as usize;
-    tree.write(header.node, offset, bytes_after(body, 40))
+    let offset = offset_of(body) as usize;
+    tree.write(header.node, offset, bytes_after(body, FUSE_WRITE_IN_SIZE))
 }

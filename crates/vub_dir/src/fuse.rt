@@ -30,6 +30,20 @@ pub const FUSE_READDIR: u32 = 28;
 pub const FUSE_IN_HEADER_SIZE: usize = 40;
 /// The length of a reply's header, in bytes (`struct fuse_out_header`).
 pub const FUSE_OUT_HEADER_SIZE: usize = 16;
+/// The length of the body of INIT, in bytes, as far as it is read (the front of `struct fuse_init_in`).
+pub const FUSE_INIT_IN_SIZE: usize = 16;
+/// The length of the body of OPEN, in bytes (`struct fuse_open_in`).
+pub const FUSE_OPEN_IN_SIZE: usize = 8;
+/// The length of the body of READ and of READDIR, in bytes (`struct fuse_read_in`).
+pub const FUSE_READ_IN_SIZE: usize = 40;
+/// How many bytes of the body of WRITE stand before those that are written (`struct fuse_write_in`).
+pub const FUSE_WRITE_IN_SIZE: usize = 40;
+/// The length of the body of the reply to WRITE, in bytes (`struct fuse_write_out`).
+pub const FUSE_WRITE_OUT_SIZE: usize = 8;
+/// How many bytes of an entry of a listing stand before its name (`struct fuse_dirent`).
+pub const FUSE_NAME_OFFSET: usize = 24;
+/// The length of an entry of a listing is a multiple of this, in bytes (`FUSE_DIRENT_ALIGN`).
+pub const FUSE_DIRENT_ALIGNMENT: usize = 8;
 /// The length of the body of the reply to LOOKUP, in bytes (`struct fuse_entry_out`).
 pub const FUSE_ENTRY_OUT_SIZE: u32 = 128;
 /// The length of the body of the reply to GETATTR, in bytes (`struct fuse_attr_out`).

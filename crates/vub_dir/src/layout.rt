@@ -2,6 +2,7 @@
 ghost use Rattle.std.specs.Prelude.{◌≡◌, ◌+◌, ◌≤◌, ◌++◌, length, drop, OnOk};
 ghost use Rattle.vub_dir.specs.Layout.{field_bytes, fields_bytes, u32_at, u64_at};
 
+use byteorder::{ByteOrder, LittleEndian};
 use std::alloc::AllocError;
 
 /// One field of a layout.
@@ -40,7 +41,7 @@ pub(crate) fn u32_in(bytes: &[u8], at: usize) -> u32
     requires { at + 4 ≤ length bytes.now }
     ensures { result ≡ u32_at bytes.now at }
 {
-    u32::from_le_bytes([bytes[at], bytes[at + 1], bytes[at + 2], bytes[at + 3]])
+    LittleEndian::read_u32(&bytes[at..])
 }
 
 /// The 8 bytes from place `at` on, as a number.
@@ -49,16 +50,7 @@ pub(crate) fn u64_in(bytes: &[u8], at: usize) -> u64
     requires { at + 8 ≤ length bytes.now }
     ensures { result ≡ u64_at bytes.now at }
 {
-    u64::from_le_bytes([
-        bytes[at],
-        bytes[at + 1],
-        bytes[at + 2],
-        bytes[at + 3],
-        bytes[at + 4],
-        bytes[at + 5],
-        bytes[at + 6],
-        bytes[at + 7],
-    ])
+    LittleEndian::read_u64(&bytes[at..])
 }
 
 /// The bytes after the first `count`.

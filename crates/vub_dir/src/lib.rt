@@ -13,6 +13,7 @@ mod layout;
 mod listing;
 mod names;
 mod node;
+mod part;
 mod slot;
 mod sorted_names;
 mod tree;

@@ -1,6 +1,7 @@
 ghost use Rattle.std.specs.Prelude.{◌≡◌, ◌+◌, ◌<◌, ◌^◌, ◌++◌, length, map, OnOk};
 ghost use Rattle.vub_dir.specs.Directory.{dirent, dirents, dirent_size, padding};
 
+use crate::fuse::{FUSE_DIRENT_ALIGNMENT, FUSE_NAME_OFFSET};
 use crate::layout::{Field, put_fields};
 use crate::tree::Tree;
 use indexmap::map::Iter;
@@ -10,14 +11,14 @@ use std::alloc::AllocError;
 fn pad(length: usize) -> usize
     ensures { result ≡ padding length }
 {
-    (8 - length % 8) % 8
+    (FUSE_DIRENT_ALIGNMENT - length % FUSE_DIRENT_ALIGNMENT) % FUSE_DIRENT_ALIGNMENT
 }
 
 /// How many bytes a name takes in a listing.
 fn size_of_entry(name: &[u8]) -> usize
     ensures { result ≡ dirent_size name.now }
 {
-    24 + name.len() + pad(name.len())
+    FUSE_NAME_OFFSET + name.len() + pad(name.len())
 }
 
 /// Appends one entry of a listing (`struct fuse_dirent`).
@@ -55,7 +56,8 @@ pub(crate) fn put_entries(
     size: u32,
 ) -> Result<(), AllocError>
     requires { place + length entries < 2 ^ 64 }
-    ensures { OnOk result (out.new.items ≡ out.old.items ++ dirents tree.now place size (map (λ e. record { name = e.0.items; node = e.1 }) entries.entry)) }
+    ensures { OnOk result (out.new.items ≡ out.old.items ++
+        dirents tree.now place size (map (λ e. record { name = e.0.items; node = e.1 }) entries.entry)) }
 {
     let mut place = place;
     let mut left = size as usize;

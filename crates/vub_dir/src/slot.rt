@@ -1,6 +1,6 @@
 ghost use Rattle.std.specs.Prelude.{◌≡◌, ◌+◌, ◌<◌, ◌^◌, ◌++◌, Ok, Err, length, IfOk};
 ghost use Rattle.vub_dir.specs.Layout.{fields_bytes};
-ghost use Rattle.vub_dir.specs.Replies.{header_fields, message, refusal, fitted};
+ghost use Rattle.vub_dir.specs.Replies.{IsFitted, header_fields, message, refusal};
 
 use crate::fuse::{EIO, FUSE_OUT_HEADER_SIZE};
 use crate::layout::{Field, put_fields};
@@ -18,7 +18,7 @@ impl Slot {
     /// The reply with this body, or the error EIO where it does not fit.
     #[tactic(auto, unfolding(crate::specs::Replies::fitted))]
     pub(crate) fn succeed(self, alloc: Global, body: &[u8]) -> Result<Bytes, OutOfMemory>
-        ensures { IfOk result (λ reply. reply ≡ fitted self.room self.unique (Ok body.now)) }
+        ensures { IfOk result (IsFitted self (Ok body.now)) }
     {
         if FUSE_OUT_HEADER_SIZE + body.len() <= self.room as usize {
             message(alloc, self.unique, 0, body)
@@ -33,14 +33,15 @@ impl Slot {
         alloc: Global,
         fields: &[Field],
     ) -> Result<Bytes, OutOfMemory>
-        ensures { IfOk result (λ reply. reply ≡ fitted self.room self.unique (Ok (fields_bytes fields.now))) }
+        ensures { IfOk result (IsFitted self (Ok (fields_bytes fields.now))) }
     {
         let mut body = Vec::new(alloc);
         put_fields(&mut body, fields)?;
         self.succeed(alloc, &body)
     }
 
-    /// The reply whose body is the bytes of the fields of `head` and then of `tail`, `size` in all, or the error EIO where it does not fit.
+    /// The reply whose body is the bytes of the fields of `head` and then of `tail`, `size` in all, or the error EIO
+    /// where it does not fit.
     #[tactic(auto, unfolding(crate::specs::Replies::fitted, crate::specs::Replies::message))]
     pub(crate) fn succeed_with(
         self,
@@ -50,7 +51,7 @@ impl Slot {
         tail: &[Field],
     ) -> Result<Bytes, OutOfMemory>
         requires { size ≡ length (fields_bytes head.now ++ fields_bytes tail.now) }
-        ensures { IfOk result (λ reply. reply ≡ fitted self.room self.unique (Ok (fields_bytes head.now ++ fields_bytes tail.now))) }
+        ensures { IfOk result (IsFitted self (Ok (fields_bytes head.now ++ fields_bytes tail.now))) }
     {
         let length = FUSE_OUT_HEADER_SIZE + size as usize;
         if length > self.room as usize {
@@ -66,7 +67,7 @@ impl Slot {
     #[tactic(auto, unfolding(crate::specs::Replies::fitted, crate::specs::Replies::refusal))]
     pub(crate) fn refuse(self, alloc: Global, errno: u32) -> Result<Bytes, OutOfMemory>
         ensures refusal { IfOk result (λ reply. reply ≡ refusal self.room self.unique errno) }
-        ensures fitted { IfOk result (λ reply. reply ≡ fitted self.room self.unique (Err errno)) }
+        ensures fitted { IfOk result (IsFitted self (Err errno)) }
     {
         if FUSE_OUT_HEADER_SIZE <= self.room as usize {
             message(alloc, self.unique, errno, &[])

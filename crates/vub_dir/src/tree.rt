@@ -1,4 +1,5 @@
-ghost use Rattle.std.specs.Prelude.{◌≡◌, ◌+◌, ◌-◌, ◌<◌, ◌^◌, ◌==◌, if◌then◌else◌, None, Ok, Err, length, slice_get, MatchResult, OnOk, OnErr};
+ghost use Rattle.std.specs.Prelude.{◌≡◌, ◌+◌, ◌-◌, ◌<◌, ◌^◌, ◌==◌, if◌then◌else◌, None, Ok, Err, length, slice_get};
+ghost use Rattle.std.specs.Prelude.{MatchResult, OnOk, OnErr};
 ghost use Rattle.std.specs.Option.{option_copied};
 ghost use Rattle.vub_dir.specs.Tree.{node_at, child_of, names_of, file_of, kind_at, write_node, write_at};
 
@@ -55,7 +56,8 @@ impl Tree {
     /// The names in the directory with this number, or the number of an error.
     #[tactic(auto, unfolding(crate::specs::Tree::names_of))]
     pub(crate) fn names(&self, number: u64) -> Result<&Names, u32>
-        ensures { MatchResult result (λ names. names_of self.now number ≡ Ok names.now) (λ errno. names_of self.now number ≡ Err errno) }
+        ensures { MatchResult result (λ names. names_of self.now number ≡ Ok names.now)
+            (λ errno. names_of self.now number ≡ Err errno) }
     {
         match self.node(number) {
             None => Err(ENOENT),
@@ -69,7 +71,8 @@ impl Tree {
     /// The bytes of the file with this number, or the number of an error.
     #[tactic(auto, unfolding(crate::specs::Tree::file_of))]
     pub(crate) fn file(&self, number: u64) -> Result<&Content, u32>
-        ensures { MatchResult result (λ file. file_of self.now number ≡ Ok file.now) (λ errno. file_of self.now number ≡ Err errno) }
+        ensures { MatchResult result (λ file. file_of self.now number ≡ Ok file.now)
+            (λ errno. file_of self.now number ≡ Err errno) }
     {
         match self.node(number) {
             None => Err(ENOENT),
