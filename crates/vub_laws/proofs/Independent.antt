@@ -78,7 +78,7 @@ guest-rings w [] = refl
 guest-rings w (Store o i bs ∷ actions) = refl
 guest-rings w (Signal o ∷ actions) = refl
 
-guest-phases : {V : Type 0} (w : World V) (actions : List GuestAction) → (after_guest w actions).phases ≡ w.phases
+pub guest-phases : {V : Type 0} (w : World V) (actions : List GuestAction) → (after_guest w actions).phases ≡ w.phases
 guest-phases w [] = refl
 guest-phases w (action ∷ actions) = refl
 

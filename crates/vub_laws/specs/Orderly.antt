@@ -17,7 +17,7 @@ use Rattle.vub_model.specs.Shared.{ring_at}
 use Rattle.vub_model.specs.ValidSetup.{IsValid}
 use Rattle.vub_model.specs.World.{World}
 use Rattle.vub_laws.specs.Alone.{IsUndisturbed, IsAsAlone, placing, placings}
-use Rattle.vub_laws.specs.Draining.{Drains, EventsArePlain}
+use Rattle.vub_laws.specs.Draining.{Drains, EventsArePlain, steps}
 use Rattle.vub_laws.specs.Stretches.{world_after, world_at, stretch}
 
 -- which queues are calm at a place of a run
@@ -39,6 +39,12 @@ StandsAlone {V} m schedule plays opening calm =
     ServesAsAlone m v queue (stretch place count schedule) (stretch place count plays)
     (world_at m schedule plays opening place) (calm_at m schedule plays opening calm place)
 
+-- before the first step of a worker no entry is in flight
+abbrev pub NoneFliesAtFirst : {V : Type 0} → Meaning V → List ℕ → List Play → World V → Type 0
+NoneFliesAtFirst m schedule plays opening =
+    (place queue : ℕ) → steps (take place schedule) (take place plays) ≡ 0 →
+    is_in_flight (ring_at (world_at m schedule plays opening place).shared queue).flight ≡ false
+
 -- An orderly run of the set-up from its opening to this world.
 pub record IsOrderly {V : Type 0} (m : Meaning V) (constants : Constants) (setup : Setup) (v : V)
     (schedule : List ℕ) (plays : List Play) (closing : World V) : Type 0 where
@@ -46,6 +52,7 @@ pub record IsOrderly {V : Type 0} (m : Meaning V) (constants : Constants) (setup
   pub plain : EventsArePlain m schedule plays (opening constants setup v)
   pub drains : Drains m schedule plays (opening constants setup v)
   pub alone : StandsAlone m schedule plays (opening constants setup v) (is_registered constants setup)
+  pub free : NoneFliesAtFirst m schedule plays (opening constants setup v)
 
 -- Laws
 
