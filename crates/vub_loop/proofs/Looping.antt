@@ -1,10 +1,9 @@
 -- Turns one after the other: none, one, and some after others.
-use Rattle.std.proofs.Common.{◌≡◌, ◌⊎◌, inl, inr, ℕ, ◌≤◌, Bool, true, false, List, [], ◌∷◌, ◌++◌, Option, Some, None, Result, Ok, Err, refl, sym, ap, subst, ◌∙◌, arith}
+use Rattle.std.proofs.Common.{◌≡◌, ◌⊎◌, inl, inr, ℕ, ◌≤◌, Bool, true, List, [], ◌∷◌, ◌++◌, Option, Some, None, Result, Ok, Err, refl, sym, ap, subst, ◌∙◌, arith}
 use Rattle.std.proofs.lemmas.List.{append_assoc, append-nil}
 use Rattle.vub_base.specs.Causes.{Rose}
 use Rattle.vub_base.specs.Told.{Told}
 use Rattle.vub_model.specs.declared.cause.VringEpollError.{VringEpollError}
-use Rattle.vub_model.specs.declared.cause.StopCause.TheVariants.{Exit, Fault}
 use Rattle.vub_model.specs.declared.phase.Phase.{Phase}
 use Rattle.vub_model.specs.declared.phase.Phase.TheVariants.{Idle, Polled, Sweep, Heard, Serving, Taken, Served, Stopped}
 use Rattle.vub_model.specs.DeviceCalls.{Call, Telling, moved_by}
@@ -17,7 +16,7 @@ use Rattle.vub_loop.specs.declared.turned.Turned.{Turned}
 use Rattle.vub_loop.specs.Faults.{RowOrFault, TurnSteps, StopsOnlyBy, IsHostStop, IsDeviceStop}
 use Rattle.vub_loop.specs.Handler.{SameWorker, phase_of}
 use Rattle.vub_loop.specs.Hearing.{CallsBy, TurnsDevice, calls_in}
-use Rattle.vub_loop.specs.Looping.{LoopTurn, LeadOn, AreTurns, calls_over, TakesTurns, TakesTurn, stop_in}
+use Rattle.vub_loop.specs.Looping.{LoopTurn, LeadOn, AreTurns, calls_over, TakesTurns, TakesTurn}
 use Rattle.vub_loop.specs.Phases.{TurnedIn, has_queues, ServesTo}
 use Rattle.vub_loop.specs.Stepping.{LeastTurned, OnPhases, TurnsBy, TurnsLeastBy, TurnFrame}
 use Rattle.vub_loop.specs.Worker.{Worker}
@@ -69,29 +68,6 @@ queues-serve (Polled object token) has = absurd (cc)
 queues-serve Sweep has = absurd (cc)
 queues-serve (Heard token) has = absurd (cc)
 queues-serve (Stopped cause) has = absurd (cc)
-
--- once the queues are served, a worker that has not stopped is idle
-pub served-idle : (p : Phase) → has_queues p ≡ false → ServesTo p → stop_in p ≡ None → p ≡ Idle
-served-idle Idle has serves stop = refl
-served-idle (Serving queues) has serves stop = absurd (cc)
-served-idle (Taken e queues) has serves stop = absurd (cc)
-served-idle (Served e reply queues) has serves stop = absurd (cc)
-served-idle (Polled object token) has serves stop = absurd serves
-served-idle Sweep has serves stop = absurd serves
-served-idle (Heard token) has serves stop = absurd serves
-served-idle (Stopped cause) has serves stop = absurd (cc)
-
--- and none was told to end
-pub served-told : (p : Phase) → ServesTo p → stop_in p ≡ Some Exit → ⊥
-served-told (Stopped Exit) serves stop = serves
-served-told (Stopped (Fault e)) serves stop = absurd (cc)
-served-told Idle serves stop = absurd (cc)
-served-told (Serving queues) serves stop = absurd (cc)
-served-told (Taken e queues) serves stop = absurd (cc)
-served-told (Served e reply queues) serves stop = absurd (cc)
-served-told (Polled object token) serves stop = absurd (cc)
-served-told Sweep serves stop = absurd (cc)
-served-told (Heard token) serves stop = absurd (cc)
 
 -- Calls of the device
 
