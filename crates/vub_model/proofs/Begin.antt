@@ -1,7 +1,7 @@
 -- The plan of each request fits where it begins, with every queue settled.
 use Rattle.std.proofs.Common.{◌≡◌, ℕ, zero, suc, ◌<◌, ◌≤◌, Bool, true, false, cond, not, ◌&&◌, ◌||◌, inl, inr, List, [], ◌∷◌, ◌++◌, length, Option, Some, None, is_some, refl, sym, ap, ◌∙◌, subst, arith, eqb, nat_lt, slice_set, slice_index_or, append_assoc, Result, Ok, Err, nat_le, ◌%◌, ◌^◌}
 use Rattle.std.proofs.lemmas.List.{get_or-set_same}
-use Rattle.std.proofs.lemmas.Bool.{cases_eq, eqb-true, eq-eqb, ltb-true}
+use Rattle.std.proofs.lemmas.Bool.{cases_eq, and_parts, eqb-true, eq-eqb, ltb-true}
 use Rattle.vub_mem.specs.declared.region.Region.{Region}
 use Rattle.vub_mem.specs.declared.errors.MemError.{MemError}
 use Rattle.vub_proto.specs.declared.answer.Answer.{Answer}
@@ -321,13 +321,17 @@ module _ (g : Wiring) (f : Frame) (wired : Wired g f) (l : Linked g f) (settled 
   reset-fine : (s : Session) → Fine (done (reset_steps g f) s)
   reset-fine s = record { safe = loop g (says answer.Ok) f (λ q. disable_steps g q (known_at f q)) (disables g (says answer.Ok) f) g.queues (omega arith) f begun-good (Device device.ResetDevice ∷ Answering ∷ []) (λ y next. (next.settled, λ _. ((refl, tt), λ _. next.settled))) }
 
-  listen-parts : (a b c d e : Bool) → a && b && c && d && e ≡ true → (a ≡ true) × (d ≡ true)
-  listen-parts true true true true true h = (refl, refl)
-  listen-parts true true true true false h = absurd cc
-  listen-parts true true true false e h = absurd cc
-  listen-parts true true false d e h = absurd cc
-  listen-parts true false c d e h = absurd cc
-  listen-parts false b c d e h = absurd cc
+  record IsListening (a d e : Bool) : Type 0 where
+    token : a ≡ true
+    worker : d ≡ true
+    there : e ≡ true
+
+  listen-parts : (a b c d e : Bool) → a && b && c && d && e ≡ true → IsListening a d e
+  listen-parts a b c d e h =
+      let last = and_parts (a && b && c && d) e h in
+      let fourth = and_parts (a && b && c) d last.0 in
+      let third = and_parts (a && b) c fourth.0 in
+      record { token = (and_parts a b third.0).0; worker = fourth.1; there = last.1 }
 
   flag-fine : (flag : Option Bool) (s : Session) (p : Plan) → Fine p → Fine (no_flag flag s p)
   flag-fine flag s p fine = tested-fine (not (is_some flag)) (error.InvalidOperation denied.PostcopyNotEnabled) s p (λ _. fine)
@@ -335,13 +339,15 @@ module _ (g : Wiring) (f : Frame) (wired : Wired g f) (l : Linked g f) (settled 
   register-fine : (s : Session) (worker object set token : ℕ) → NoBell g object → (b : Bool) → is_listener g f worker object set token ≡ b → Fine (cond b (done (Listen worker object token ∷ Answering ∷ []) s) (listener_refused s))
   register-fine s worker object set token apart true is =
       let parts = listen-parts (nat_lt g.queues token) (nat_le token 65535) (eqb set 1) (nat_lt worker (length g.opened)) (is_there f object) is in
-      record { safe = ((settled, ltb-true worker (length g.opened) parts.1, ltb-true g.queues token parts.0, apart), λ may. ((refl, tt), λ _. listen-settled g f wired l settled worker object token (ltb-true worker (length g.opened) parts.1) may)) }
+      let below = ltb-true worker (length g.opened) parts.worker in
+      record { safe = ((settled, below, ltb-true g.queues token parts.token, apart, parts.there), λ may. ((refl, tt), λ _. listen-settled g f wired l settled worker object token below may)) }
   register-fine s worker object set token apart false is = answered-fine (answer.Listener listener_error.EINVAL) s
 
   unregister-fine : (s : Session) (worker object set token : ℕ) → (b : Bool) → is_listener g f worker object set token ≡ b → Fine (cond b (done (Unlisten worker object g.queues ∷ Answering ∷ []) s) (listener_refused s))
   unregister-fine s worker object set token true is =
       let parts = listen-parts (nat_lt g.queues token) (nat_le token 65535) (eqb set 1) (nat_lt worker (length g.opened)) (is_there f object) is in
-      record { safe = ((settled, ltb-true worker (length g.opened) parts.1, refl), λ _. ((refl, tt), λ _. unlisten-settled g f wired l settled worker object g.queues (ltb-true worker (length g.opened) parts.1) refl)) }
+      let below = ltb-true worker (length g.opened) parts.worker in
+      record { safe = ((settled, below, refl, parts.there), λ _. ((refl, tt), λ _. unlisten-settled g f wired l settled worker object g.queues below refl)) }
   unregister-fine s worker object set token false is = answered-fine (answer.Listener listener_error.EINVAL) s
 
   pub begin-fine : (rs : List Region) (s : Session) (r : Request) → RequestFits g f.events r → Fine (plan_of g f rs s r)
@@ -377,6 +383,6 @@ module _ (g : Wiring) (f : Frame) (wired : Wired g f) (l : Linked g f) (settled 
   begin-fine rs s request.GetShmemConfig fits = asks-fine _ s
   begin-fine rs s request.GetInflightFd fits = answered-fine _ _
   begin-fine rs s (request.SetInflightFd object) fits = answered-fine _ _
-  begin-fine rs s (request.RegisterListener worker object set token) fits = register-fine s worker object set token fits (is_listener g f worker object set token) refl
+  begin-fine rs s (request.RegisterListener worker object set token) fits = register-fine s worker object set token fits.1 (is_listener g f worker object set token) refl
   begin-fine rs s (request.UnregisterListener worker object set token) fits = unregister-fine s worker object set token (is_listener g f worker object set token) refl
   begin-fine rs s request.SendExit fits = record { safe = exits-fine answer.Ok g.opened }

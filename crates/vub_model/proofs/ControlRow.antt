@@ -39,6 +39,7 @@ setup = record {
   objects = object.Event 0 ∷ [];
   regions = [];
   rings = record { queue = 0; size = 8; info = None; base = 0; next_used = 0; kick = None; call = None; ready = false; enabled = false } ∷ [];
+  requests = [];
   guest = [];
 }
 
@@ -103,6 +104,7 @@ running = record {
   objects = object.Event 0 ∷ [];
   regions = [];
   rings = record { queue = 0; size = 8; info = None; base = 7; next_used = 0; kick = Some 0; call = None; ready = true; enabled = true } ∷ [];
+  requests = [];
   guest = [];
 }
 

@@ -1,9 +1,9 @@
 -- The opening of a valid set-up has the schedule invariant.
-use Rattle.std.proofs.Common.{◌≡◌, ℕ, zero, suc, ◌+◌, ◌<◌, ◌≤◌, Bool, true, false, cond, not, ◌&&◌, ◌⊎◌, inl, inr, List, [], ◌∷◌, ◌++◌, length, map, get_or, find, fold, Option, Some, None, is_some, refl, sym, ap, ◌∙◌, subst, arith, eqb, nat_lt, slice_index_or, append_assoc, append-nil}
-use Rattle.std.specs.List.{AllByRecursion, list_all}
+use Rattle.std.proofs.Common.{◌≡◌, ℕ, zero, suc, ◌+◌, ◌<◌, ◌≤◌, Bool, true, false, cond, not, ◌&&◌, ◌⊎◌, inl, inr, List, [], ◌∷◌, ◌++◌, length, map, get_or, find, fold, Option, Some, None, is_some, refl, sym, ap, ◌∙◌, subst, arith, eqb, nat_lt, slice_index_or, append_assoc, append-nil, option_map, position, ltb}
+use Rattle.std.specs.List.{AllByRecursion, list_all, position_or_len}
 use Rattle.std.proofs.lemmas.List.{get_or_past, length-append, length-map, get_or-map as mapped-at}
 use Rattle.std.proofs.lemmas.List.FromFn.{length-map-range_with_len, get_or-map-range_with_len}
-use Rattle.std.proofs.lemmas.Bool.{cases_lt, and_parts, eqb-true, eq-eqb, ne_eqb, ltb-true, leb-true, not-true, not-false}
+use Rattle.std.proofs.lemmas.Bool.{cases_Bool, cases_lt, and_parts, eqb-true, eq-eqb, ne_eqb, ltb-true, leb-true, not-true, not-false, ltb-false, cond-true}
 use Rattle.vub_event.specs.declared.event.Event.{Event}
 use Rattle.vub_event.specs.declared.member.Member.{Member}
 use Rattle.vub_event.specs.HostTable.{event_at, members_at}
@@ -11,6 +11,8 @@ use Rattle.vub_event.specs.HostCalls.{new_event}
 use Rattle.vub_event.specs.InterestList.{member_of, with_member}
 use Rattle.std.specs.Int.{is_power_of_two}
 use Rattle.std.specs.Prelude.{nat_le}
+use Rattle.vub_proto.specs.declared.request.Request.{Request}
+use Rattle.vub_proto.specs.declared.request.Request.TheVariants as request
 use Rattle.vub_model.specs.declared.constants.Constants.{Constants}
 use Rattle.vub_model.specs.declared.flight.Flight.TheVariants as flight
 use Rattle.vub_model.specs.declared.phase.Phase.TheVariants.{Idle}
@@ -30,9 +32,9 @@ use Rattle.vub_model.specs.Shared.{Shared, ring_at, count_at, pending_at, has_nu
 use Rattle.vub_model.specs.Wiring.{Wiring, opened_at, no_worker, place_of, IsPlaced}
 use Rattle.vub_model.specs.World.{phase_at}
 use Rattle.vub_model.specs.Work.{is_object}
-use Rattle.vub_model.specs.ValidSetup.{or_else, is_event, is_event_or_none, is_free, is_free_or_none, is_first_of_queue, is_aligned, ring_is_sound, ring_fault, device_fault, exit_fault, is_greatest_size, region_fault, given_table_fault, guest_fault, fault_of, IsValid}
-use Rattle.vub_model.specs.Opening.{flags_of, opening_events, opened_worker, wiring_of, listed, exit_member, opening_members, given_vring, ring_from, opening_rings, claimed, joined, placed, registered_kick, registered, opening_table, before_rings, opening, is_registered, requests_of, new_control}
-use Rattle.vub_model.specs.Schedule.{IsKick, IsBellOrExit, IsOwn, known_at, claim_at, is_member, Linked, Settled, PhaseFits, HasInHand, ringing, waiting, Invariant, Wired, IsListener, RequestFits}
+use Rattle.vub_model.specs.ValidSetup.{or_else, is_event, is_event_or_none, is_free, is_free_or_none, is_first_of_queue, is_aligned, ring_is_sound, ring_fault, device_fault, exit_fault, is_greatest_size, region_fault, given_table_fault, is_answerable, request_fault, guest_fault, fault_of, IsValid}
+use Rattle.vub_model.specs.Opening.{flags_of, opening_events, opened_worker, wiring_of, listed, exit_member, opening_members, given_vring, ring_from, opening_rings, claimed, joined, placed, registered_kick, registered, opening_table, before_rings, opening, is_registered, new_control}
+use Rattle.vub_model.specs.Schedule.{IsKick, IsBellOrExit, IsOwn, known_at, claim_at, is_member, Linked, Settled, PhaseFits, HasInHand, ringing, waiting, Invariant, Wired, IsListener, NoBell, RequestFits}
 use Rattle.vub_model.proofs.Places.{place-is}
 use Rattle.vub_model.proofs.SchedWork.{known-ring, kick-ring, claim-event}
 use Rattle.vub_model.proofs.Waking.{has-none}
@@ -49,35 +51,67 @@ or-parts : (a b : Option SetupFault) → or_else a b ≡ None → (a ≡ None) �
 or-parts None b is = (refl, is)
 or-parts (Some x) b is = absurd cc
 
--- the greatest size of a queue is a power of two, and no greater than 32768
-pub greatest-size : (constants : Constants) (setup : Setup) → IsValid constants setup → (is_power_of_two constants.max ≡ true) × (constants.max ≤ 32768)
-unfolding fault_of device_fault is_greatest_size
-greatest-size constants setup valid =
-    let rings = ring_fault constants setup.objects [] setup.rings in
+-- each part of a valid set-up is without a fault
+record FailsNone (constants : Constants) (setup : Setup) : Type 0 where
+  device : device_fault constants setup.objects ≡ None
+  rings : ring_fault constants setup.objects [] setup.rings ≡ None
+  requests : request_fault constants setup.objects setup.requests ≡ None
+
+fails-none : (constants : Constants) (setup : Setup) → IsValid constants setup → FailsNone constants setup
+unfolding fault_of
+fails-none constants setup valid =
     let guest = guest_fault setup.objects setup.guest in
+    let requests = request_fault constants setup.objects setup.requests in
+    let rings = ring_fault constants setup.objects [] setup.rings in
     let table = given_table_fault setup.objects setup.regions in
     let region = region_fault setup.objects setup.regions in
     let device = device_fault constants setup.objects in
-    let first = or-parts device (or_else region (or_else table (or_else rings guest))) valid in
+    let first = or-parts device (or_else region (or_else table (or_else rings (or_else requests guest)))) valid in
+    let second = or-parts region (or_else table (or_else rings (or_else requests guest))) first.1 in
+    let third = or-parts table (or_else rings (or_else requests guest)) second.1 in
+    let fourth = or-parts rings (or_else requests guest) third.1 in
+    record { device = first.0; rings = fourth.0; requests = (or-parts requests guest fourth.1).0 }
+
+-- the greatest size of a queue is a power of two, and no greater than 32768
+pub greatest-size : (constants : Constants) (setup : Setup) → IsValid constants setup → (is_power_of_two constants.max ≡ true) × (constants.max ≤ 32768)
+unfolding device_fault is_greatest_size
+greatest-size constants setup valid =
     let exit = exit_fault constants setup.objects in
-    let queues = unless-none (nat_lt 64 constants.queues) setup_fault.Queues (cond (nat_lt 64 (length constants.masks)) (Some setup_fault.Workers) (cond (not (is_greatest_size constants.max)) (Some setup_fault.QueueSize) exit)) first.0 in
+    let queues = unless-none (nat_lt 64 constants.queues) setup_fault.Queues (cond (nat_lt 64 (length constants.masks)) (Some setup_fault.Workers) (cond (not (is_greatest_size constants.max)) (Some setup_fault.QueueSize) exit)) (fails-none constants setup valid).device in
     let workers = unless-none (nat_lt 64 (length constants.masks)) setup_fault.Workers (cond (not (is_greatest_size constants.max)) (Some setup_fault.QueueSize) exit) queues.1 in
     let size = unless-none (not (is_greatest_size constants.max)) setup_fault.QueueSize exit workers.1 in
     let both = and_parts (is_power_of_two constants.max) (nat_le constants.max 32768) (not-false (is_greatest_size constants.max) size.0) in
     (both.0, leb-true constants.max 32768 both.1)
 
 pub rings-sound : (constants : Constants) (setup : Setup) → IsValid constants setup → ring_fault constants setup.objects [] setup.rings ≡ None
-unfolding fault_of
-rings-sound constants setup valid =
-    let rings = ring_fault constants setup.objects [] setup.rings in
-    let guest = guest_fault setup.objects setup.guest in
-    let table = given_table_fault setup.objects setup.regions in
-    let region = region_fault setup.objects setup.regions in
-    let device = device_fault constants setup.objects in
-    let first = or-parts device (or_else region (or_else table (or_else rings guest))) valid in
-    let second = or-parts region (or_else table (or_else rings guest)) first.1 in
-    let third = or-parts table (or_else rings guest) second.1 in
-    (or-parts rings guest third.1).0
+rings-sound constants setup valid = (fails-none constants setup valid).rings
+
+-- no element passes a test for whose first there is none
+none-here : {X : Type 0} (p : X → Bool) (xs : List X) → length xs ≤ position_or_len p xs → AllByRecursion (λ x. p x ≡ false) xs
+none-here p [] past = tt
+none-here p (x ∷ xs) past =
+    elim (cases_Bool (p x)) [
+      | inl t ↦ absurd (let first : position_or_len p (x ∷ xs) ≡ 0 = rw t refl in omega arith)
+      | inr f ↦ (let next : position_or_len p (x ∷ xs) ≡ suc (position_or_len p xs) = rw f (omega arith) in (f, none-here p xs (omega arith)))
+    ]
+
+none-passes : {X : Type 0} (p : X → Bool) (xs : List X) → position p xs ≡ None → AllByRecursion (λ x. p x ≡ false) xs
+none-passes p xs is =
+    elim (cases_Bool (ltb (position_or_len p xs) (length xs))) [
+      | inl t ↦ absurd (let h : Some (position_or_len p xs) ≡ None = sym (cond-true (ltb (position_or_len p xs) (length xs)) (Some (position_or_len p xs)) None t) ∙ is in cc)
+      | inr f ↦ none-here p xs (ltb-false (position_or_len p xs) (length xs) f)
+    ]
+
+map-none : {X Y : Type 0} (f : X → Y) (o : Option X) → option_map f o ≡ None → o ≡ None
+map-none f None is = refl
+map-none f (Some x) is = absurd cc
+
+-- what each request of a valid set-up names is there
+requests-sound : (constants : Constants) (setup : Setup) → IsValid constants setup → AllByRecursion (λ r. not (is_answerable constants setup.objects r) ≡ false) setup.requests
+unfolding request_fault
+requests-sound constants setup valid =
+    let first = position (λ r. not (is_answerable constants setup.objects r)) setup.requests in
+    none-passes (λ r. not (is_answerable constants setup.objects r)) setup.requests (map-none (λ i. setup_fault.Request i) first (fails-none constants setup valid).requests)
 
 -- what is asked of a ring behind these
 pub record IsSound (constants : Constants) (objects : List Object) (earlier : List GivenRing) (r : GivenRing) : Type 0 where
@@ -343,9 +377,9 @@ module _ (constants : Constants) (objects : List Object) (given : List GivenRing
   exit-in : (x : ℕ) (exit : Option ℕ) → exit ≡ Some x → is_member (exit_member exit constants.queues) x ≡ true
   exit-in x exit is = let P : Option ℕ → Type 0 = λ e. is_member (exit_member e constants.queues) x ≡ true in subst P (sym is) (with-own [] (listed x constants.queues))
 
-  module _ {V : Type 0} (regions : List GivenRegion) (guest : List Guest) (v : V) where
+  module _ {V : Type 0} (regions : List GivenRegion) (requests : List Request) (guest : List Guest) (v : V) where
     abbrev setup : Setup
-    setup = record { objects = objects; regions = regions; rings = given; guest = guest }
+    setup = record { objects = objects; regions = regions; rings = given; requests = requests; guest = guest }
 
     first-stage : Stage g count workers constants.exits rings [] [] (before_rings constants setup v)
     first-stage = record {
@@ -507,7 +541,7 @@ registered-all : {V : Type 0} (constants : Constants) (setup : Setup) (v : V) �
 unfolding opening
 registered-all constants setup v is_valid =
     let valid = rings-sound constants setup is_valid in
-    register-all constants setup.objects setup.rings valid [] setup.rings (before_rings constants setup v) valid (λ r among. among) (first-stage constants setup.objects setup.rings valid setup.regions setup.guest v)
+    register-all constants setup.objects setup.rings valid [] setup.rings (before_rings constants setup v) valid (λ r among. among) (first-stage constants setup.objects setup.rings valid setup.regions setup.requests setup.guest v)
 
 -- the ring of a queue is the given one or a new one, and a queue that is not there has none given
 pub opening-ring : {V : Type 0} (constants : Constants) (setup : Setup) (v : V) → IsValid constants setup → (q : ℕ)
@@ -532,10 +566,48 @@ opening-untaken constants setup v is_valid q =
     let valid = rings-sound constants setup is_valid in
     ap (λ (x : Vring). x.taken) (ring-here constants setup.objects setup.rings valid (opening constants setup v).shared (registered-all constants setup v is_valid) q) ∙ (none-taken constants setup.objects setup.rings valid q).1
 
+-- a request fits the opening of a set-up
+abbrev FitsOpening : {V : Type 0} → Constants → Setup → V → Request → Type 0
+FitsOpening constants setup v r = RequestFits (wiring_of constants (length setup.objects)) (frame_of (opening constants setup v).shared).events r
+
+-- the requests of a valid set-up fit its opening
+pub requests-fit : {V : Type 0} (constants : Constants) (setup : Setup) (v : V) → IsValid constants setup → AllByRecursion (RequestFits (wiring_of constants (length setup.objects)) (frame_of (opening constants setup v).shared).events) setup.requests
+unfolding is_answerable
+requests-fit {V} constants setup v is_valid = all setup.requests (requests-sound constants setup is_valid) where
+  s : Stage (wiring_of constants (length setup.objects)) (length setup.objects) (length constants.masks) constants.exits (opening_rings constants setup.rings) setup.rings setup.rings (opening constants setup v).shared
+  s = registered-all constants setup v is_valid
+
+  no-bell : (o : ℕ) → is_event setup.objects o ≡ true → NoBell (wiring_of constants (length setup.objects)) o
+  no-bell o is k below same =
+      let low = object-below setup.objects o is in
+      let valid = rings-sound constants setup is_valid in
+      let bell : (opened_at (wiring_of constants (length setup.objects)) k).bell ≡ length setup.objects + k = ap (λ (x : Opened). x.bell) (opened-is constants setup.objects setup.rings valid k (let size = opened-size constants setup.objects setup.rings valid in omega (arith, below, size))) in
+      absurd (omega (arith, low, bell, same))
+
+  there : (o : ℕ) → is_event setup.objects o ≡ true → slice_index_or (frame_of (opening constants setup v).shared).events o false ≡ true
+  there o is =
+      let low = object-below setup.objects o is in
+      let long = s.objects in
+      mapped-at (λ (e : Option Event). is_some e) (opening constants setup v).shared.table.objects o None false (omega (arith, low, long)) ∙ s.some o (omega (arith, low))
+
+  named : (o worker : ℕ) → is_event setup.objects o && nat_lt worker (length constants.masks) ≡ true → is_event setup.objects o ≡ true
+  named o worker is = (and_parts (is_event setup.objects o) (nat_lt worker (length constants.masks)) is).0
+
+  one : (r : Request) → is_answerable constants setup.objects r ≡ true → FitsOpening constants setup v r
+  one (request.SetVringKick queue (Some o)) is = (there o is, no-bell o is)
+  one (request.SetVringKick queue None) is = tt
+  one (request.RegisterListener worker o set token) is = (there o (named o worker is), no-bell o (named o worker is))
+  one (request.UnregisterListener worker o set token) is = there o (named o worker is)
+  one r is = tt
+
+  all : (requests : List Request) → AllByRecursion (λ r. not (is_answerable constants setup.objects r) ≡ false) requests → AllByRecursion (FitsOpening constants setup v) requests
+  all [] sound = tt
+  all (r ∷ requests) sound = (one r (not-false (is_answerable constants setup.objects r) sound.0), all requests sound.1)
+
 pub opening-meets : {V : Type 0} (constants : Constants) (setup : Setup) (v : V) → IsValid constants setup → Invariant (opening constants setup v) (is_registered constants setup)
 unfolding opening
 opening-meets {V} constants setup v is_valid =
-    let fit : AllByRecursion (RequestFits (wiring_of constants (length setup.objects)) (frame_of (opening constants setup v).shared).events) (requests_of setup) = tt in
+    let fit = requests-fit constants setup v is_valid in
     let valid = rings-sound constants setup is_valid in
     let objects = setup.objects in
     let given = setup.rings in

@@ -140,8 +140,9 @@ Fits g f reply (Release object) rest = (queue : ℕ) → (known_at f queue).kick
 Fits g f reply (Add worker object token) rest = IsKickAt g f worker token object × First rest (Insert worker token)
 Fits g f reply (Delete worker object) rest = (number : ℕ) × IsKickAt g f worker number object
 Fits g f reply (Listen worker object token) rest =
-    Settled g f × (worker < length g.opened) × (g.queues < token) × NoBell g object
-Fits g f reply (Unlisten worker object above) rest = Settled g f × (worker < length g.opened) × (above ≡ g.queues)
+    Settled g f × (worker < length g.opened) × (g.queues < token) × NoBell g object × (is_there f object ≡ true)
+Fits g f reply (Unlisten worker object above) rest =
+    Settled g f × (worker < length g.opened) × (above ≡ g.queues) × (is_there f object ≡ true)
 Fits g f reply (Bell object) rest = Unit {0}
 Fits g f reply (Remove worker number) rest =
     (object : ℕ) × IsKickAt g f worker number object × First rest (Delete worker object)
@@ -156,12 +157,20 @@ abbrev pub Safe : Wiring → Frame → Reply → List Small → Type 0
 Safe g f reply [] = Settled g f
 Safe g f reply (s ∷ rest) = Fits g f reply s rest × (passes g f s ≡ true → Safe g (frame_step g f s) reply rest)
 
--- a new kick is an event of the set-up, which is no bell, and so is a listener
+-- a new kick is an event of the set-up, which is no bell, and so is a listener; a listener that leaves is an event too
 abbrev pub RequestFits : Wiring → List Bool → Request → Type 0
 RequestFits g events (request.SetVringKick queue (Some object)) =
     (slice_index_or events object false ≡ true) × NoBell g object
-RequestFits g events (request.RegisterListener worker object set token) = NoBell g object
+RequestFits g events (request.RegisterListener worker object set token) =
+    (slice_index_or events object false ≡ true) × NoBell g object
+RequestFits g events (request.UnregisterListener worker object set token) = slice_index_or events object false ≡ true
 RequestFits g events r = Unit {0}
+
+-- the event that a request of a listener names is there
+abbrev pub NamesThere : List Bool → Request → Type 0
+NamesThere events (request.RegisterListener worker object set token) = slice_index_or events object false ≡ true
+NamesThere events (request.UnregisterListener worker object set token) = slice_index_or events object false ≡ true
+NamesThere events r = Unit {0}
 
 -- Phases
 
