@@ -13,6 +13,7 @@ use Rattle.vub_model.specs.Service.{Meaning}
 use Rattle.vub_model.specs.Shared.{ring_at}
 use Rattle.vub_model.specs.ValidSetup.{IsValid}
 use Rattle.vub_model.specs.World.{World}
+use Rattle.vub_model.proofs.Answers.{follows-plans}
 use Rattle.vub_model.proofs.Bells.{bells-ring}
 use Rattle.vub_model.proofs.ByFlags.{by-flags}
 use Rattle.vub_model.proofs.ChainsTaken.{takes-chain}
@@ -66,6 +67,7 @@ module _ {V : Type 0} (m : Meaning V) (constants : Constants) (setup : Setup) (v
           stand = each-sound m UsesItsReply (λ n w p l z s turn. uses-reply m w p l z turn) turns plays w z sound run;
         };
         confined = run-is-confined m turns plays w;
+        plans = follows-plans m turns plays w z sound run;
         places = places-first (wiring_of constants (length setup.objects));
         bells = bells-ring m turns plays w z sound run;
         none_lost = none-lost m constants setup v turns plays z short valid run;

@@ -14,6 +14,8 @@ use Rattle.vub_model.specs.Opening.{opening, is_registered, ring_from}
 use Rattle.vub_model.specs.RingRecord.{Vring, closed_ring, limit}
 use Rattle.vub_model.specs.Shared.{ring_at}
 use Rattle.vub_model.specs.ValidSetup.{IsValid}
+use Rattle.vub_model.proofs.Numbers.{fresh-numbered}
+use Rattle.vub_model.proofs.Openings.{opening-is-fresh}
 use Rattle.vub_model.proofs.OpeningMeets.{IsSoundSize, rings-sound, given-sound, greatest-size, found-in, opening-ring, opening-meets, opening-untaken}
 use Rattle.vub_model.proofs.Sized.{IsSized}
 use Rattle.vub_model.proofs.Sound.{IsSound}
@@ -51,6 +53,7 @@ module _ {V : Type 0} (constants : Constants) (setup : Setup) (v : V) (valid : I
   pub first-base : (q : ℕ) → (ring_at (opening constants setup v).shared q).base ≡ given_base setup.rings q
   first-base = by-ring (λ given r. r.base ≡ base_in given) refl (λ q. base-from (found q))
 
+  -- the opening of a valid set-up is sound, with fewer turns to go than the limit
   pub opening-sound : (more : ℕ) → more < limit → IsSound more (opening constants setup v)
   opening-sound more short = record {
     calm = is_registered constants setup;
@@ -58,4 +61,5 @@ module _ {V : Type 0} (constants : Constants) (setup : Setup) (v : V) (valid : I
     invariant = opening-meets constants setup v valid;
     counted = by-ring (λ given r. IsCounted r) refl (λ q. counted-from (found q));
     sized = by-ring (λ given r. IsSized r) (record { power = one-power; below = omega arith; few = omega arith }) (λ q. sized-from q (found q) refl);
+    numbered = fresh-numbered (opening constants setup v) (opening-is-fresh constants setup v);
   }

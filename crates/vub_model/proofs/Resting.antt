@@ -80,14 +80,14 @@ hand-steps g k h (Served e reply queues) q hand none = none play.Put tt
 hand-steps g k h phase q hand none = absurd hand
 
 -- some outcome that the step may have
-abbrev some-answer : DeviceOp → DeviceSaid
+abbrev pub some-answer : DeviceOp → DeviceSaid
 some-answer (device.GetConfig offset size) = outcome.Content []
 some-answer (device.GetSharedObject uuid) = outcome.Object (Some 0)
 some-answer (device.SetDeviceStateFd direction phase object) = outcome.Object None
 some-answer device.GetShmemConfig = outcome.Number 0
 some-answer call = outcome.Done
 
-abbrev some-outcome : Small → DeviceSaid
+abbrev pub some-outcome : Small → DeviceSaid
 some-outcome (Device call) = some-answer call
 some-outcome s = outcome.Done
 
@@ -107,7 +107,8 @@ is-answer (device.HandleEvent token worker) = tt
 is-answer (device.SetGpuSocket object) = tt
 is-answer device.CheckDeviceState = tt
 
-may-say : (s : Small) → MaySay s (some-outcome s)
+-- and it may have it
+pub may-say : (s : Small) → MaySay s (some-outcome s)
 may-say (Device call) = is-answer call
 may-say (Claim object queue) = refl
 may-say (Release object) = refl

@@ -58,14 +58,21 @@ number-small w calm i numbered s said may =
 
 -- Turns and runs
 
+-- a turn keeps the numbers of the takes
+pub number-turn : {V : Type 0} (m : Meaning V) (w : World V) (calm : ℕ → Bool) (p : Party) (z : World V) → Invariant w calm → Numbered w → (l : Play) → Turn m w p l z → Numbered z
+number-turn {V} m w calm p z i numbered =
+    turn-cases m w p z (λ l. Numbered z)
+    (λ same. subst (λ (x : World V). Numbered x) (sym same) numbered)
+    (λ l may is. subst (λ (x : World V). Numbered x) (sym is) (number-step m w numbered (λ s said ok. number-small w calm i numbered s said ok) p l may))
+
 served-turn : {V : Type 0} (m : Meaning V) (w : World V) (calm : ℕ → Bool) (p : Party) (z : World V) (calls : List Asked) → Invariant w calm → Flow w calls → Numbered w → (l : Play) → Turn m w p l z → Flow z (calls ++ asked_at m w p l) × Numbered z
-served-turn {V} m w calm p z calls i flow numbered =
-    turn-cases m w p z (λ l. Flow z (calls ++ asked_at m w p l) × Numbered z)
-    (λ same. (subst (λ c. Flow z (calls ++ c)) (sym (asked-pass m w p)) (subst (λ c. Flow z c) (sym (append-nil calls)) (subst (λ (x : World V). Flow x calls) (sym same) flow)), subst (λ (x : World V). Numbered x) (sym same) numbered))
-    (λ l may is. (
-      subst (λ (x : World V). Flow x (calls ++ asked_at m w p l)) (sym is) (flow-step m w calls flow (invariant-owned w calm i) (λ s said ok q. (small-leaves w calm i s said ok q).flight) p l may),
-      subst (λ (x : World V). Numbered x) (sym is) (number-step m w numbered (λ s said ok. number-small w calm i numbered s said ok) p l may),
-    ))
+served-turn {V} m w calm p z calls i flow numbered l turn = (
+  turn-cases m w p z (λ l. Flow z (calls ++ asked_at m w p l))
+      (λ same. subst (λ c. Flow z (calls ++ c)) (sym (asked-pass m w p)) (subst (λ c. Flow z c) (sym (append-nil calls)) (subst (λ (x : World V). Flow x calls) (sym same) flow)))
+      (λ l may is. subst (λ (x : World V). Flow x (calls ++ asked_at m w p l)) (sym is) (flow-step m w calls flow (invariant-owned w calm i) (λ s said ok q. (small-leaves w calm i s said ok q).flight) p l may))
+      l turn,
+  number-turn m w calm p z i numbered l turn,
+)
 
 pub served-run : {V : Type 0} (m : Meaning V) (turns : List ℕ) (labels : List Play) (w z : World V) (calm : ℕ → Bool) (calls : List Asked) → IsFew w (length turns) → Invariant w calm → Flow w calls → Numbered w → IsRun m turns labels w z
     → Flow z (calls ++ asked m turns labels w) × Numbered z × Owned z

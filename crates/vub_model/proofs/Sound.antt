@@ -1,5 +1,5 @@
 -- What is known of the world wherever a run comes to: the schedule invariant, with fewer takes than the limit, and the
--- numbers and sizes of the rings.
+-- numbers and sizes of the rings and the numbers of the takes.
 use Rattle.std.proofs.Common.{ℕ, suc, Bool, List, length, arith}
 use Rattle.vub_model.specs.declared.party.Party.{Party}
 use Rattle.vub_model.specs.declared.play.Play.{Play}
@@ -13,7 +13,9 @@ use Rattle.vub_model.specs.World.{World}
 use Rattle.vub_model.proofs.Counted.{counted-writes}
 use Rattle.vub_model.proofs.EachRing.{AllRings, turn-kept}
 use Rattle.vub_model.proofs.EachTurns.{each-turn}
+use Rattle.vub_model.proofs.Numbers.{Numbered}
 use Rattle.vub_model.proofs.SchedRuns.{IsFew, invariant-turn, few-turn}
+use Rattle.vub_model.proofs.Served.{number-turn}
 use Rattle.vub_model.proofs.Sized.{IsSized, sized-writes}
 
 -- with so many turns to go
@@ -23,7 +25,9 @@ pub record IsSound {V : Type 0} (more : ℕ) (w : World V) : Type 0 where
   pub invariant : Invariant w calm
   pub counted : Counted w.shared
   pub sized : AllRings IsSized w.shared
+  pub numbered : Numbered w
 
+-- a turn goes on from a sound world to one, with one turn less to go
 pub sound-turn : {V : Type 0} (m : Meaning V) (n : ℕ) (w : World V) (p : Party) (l : Play) (z : World V) → IsSound (suc n) w → Turn m w p l z → IsSound n z
 sound-turn m n w p l z s turn =
     let now : IsFew w 0 = λ q. let f = s.few q in omega (arith, f) in
@@ -33,6 +37,7 @@ sound-turn m n w p l z s turn =
       invariant = invariant-turn m w p z s.calm now s.invariant l turn;
       counted = turn-kept IsCounted counted-writes m w s.calm s.invariant s.counted p z l turn;
       sized = turn-kept IsSized sized-writes m w s.calm s.invariant s.sized p z l turn;
+      numbered = number-turn m w s.calm p z s.invariant s.numbered l turn;
     }
 
 -- what a turn shows of a sound world shows at each turn of a run from one
@@ -42,6 +47,7 @@ pub each-sound : {V : Type 0} (m : Meaning V) (P : World V → Party → Play �
 each-sound {V} m P shows turns plays w z sound run =
     (each-turn m (λ n (x : World V). IsSound n x) P (λ n w p l z s turn. (shows n w p l z s turn, sound-turn m n w p l z s turn)) turns plays w z sound run).0
 
+-- and a run to its end
 pub sound-run : {V : Type 0} (m : Meaning V) (turns : List ℕ) (plays : List Play) (w z : World V) → IsSound (length turns) w → IsRun m turns plays w z → IsSound 0 z
 sound-run {V} m turns plays w z sound run =
     (each-turn m (λ n (x : World V). IsSound n x) (λ w p l z. Unit {0}) (λ n w p l z s turn. (tt, sound-turn m n w p l z s turn)) turns plays w z sound run).1

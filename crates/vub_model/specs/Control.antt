@@ -162,6 +162,11 @@ abbrev pub MaySay : Small → DeviceSaid → Type 0
 MaySay (Device call) said = IsOutcome call said
 MaySay s said = said ≡ outcome.Done
 
+-- control has no step: its plan is at its end, or its first step waits
+abbrev pub StandsStill : {V : Type 0} → Shared V → List Small → Type 0
+StandsStill h [] = Unit {0}
+StandsStill h (s ∷ rest) = waits_now h s ≡ true
+
 -- the plan's first step, where it does not wait
 abbrev pub MayControl : {V : Type 0} → Shared V → List Small → Small → DeviceSaid → Type 0
 MayControl h [] s said = ⊥
