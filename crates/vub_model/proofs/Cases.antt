@@ -1,5 +1,5 @@
 -- The steps of a worker, case by case, and what each row of Event, Take and Put leads to.
-use Rattle.std.proofs.Common.{◌≡◌, ℕ, ◌<◌, ◌≤◌, Bool, true, false, cond, ◌==◌, List, [], ◌∷◌, length, slice_index, Option, is_some, Result, Ok, Err, nat_lt, refl}
+use Rattle.std.proofs.Common.{arith, ◌≡◌, ℕ, ◌<◌, ◌≤◌, Bool, true, false, cond, ◌==◌, List, [], ◌∷◌, length, slice_index, Option, is_some, Result, Ok, Err, nat_lt, refl}
 use Rattle.std.proofs.lemmas.Bool.{cond_both, ltb-true, ltb-false, eqb-true, eqb-false}
 use Rattle.vub_queue.specs.declared.chain.Chain.{Chain}
 use Rattle.vub_queue.specs.declared.damage.Damage.{Damage}
@@ -53,39 +53,35 @@ heard-leaf P idle ends (outcome.Refused n) = ends (why.Device n)
 
 module _ {V : Type 0} (h : Shared V) (P : Local V → Type 0) where
   pub kick-leaf : (q object : ℕ)
-      → (is_object (ring_at h q).kick object ≡ true → is_on (ring_at h q) ≡ true → P (record { shared = counter_read h object; phase = Serving (q ∷ []) }))
-      → (is_object (ring_at h q).kick object ≡ true → is_on (ring_at h q) ≡ false → P (record { shared = counter_read h object; phase = Idle }))
-      → (is_object (ring_at h q).kick object ≡ false → P (record { shared = h; phase = Idle }))
+      → (is_object (ring_at h q).kick object ≡ true → P (record { shared = counter_read h object; phase = cond (is_on (ring_at h q)) (Serving (q ∷ [])) Idle }))
+      → P (record { shared = h; phase = Idle })
       → P (after_kick h q object)
-  kick-leaf q object serves drops stale =
-      cond_both {A = Local V} (is_object (ring_at h q).kick object) (record { shared = counter_read h object; phase = cond (is_on (ring_at h q)) (Serving (q ∷ [])) Idle }) (record { shared = h; phase = Idle }) P
-      (λ own. cond_both (is_on (ring_at h q)) (Serving (q ∷ [])) Idle (λ p. P (record { shared = counter_read h object; phase = p })) (serves own) (drops own))
-      stale
+  kick-leaf q object reads stale =
+      cond_both {A = Local V} (is_object (ring_at h q).kick object) (record { shared = counter_read h object; phase = cond (is_on (ring_at h q)) (Serving (q ∷ [])) Idle }) (record { shared = h; phase = Idle }) P reads (λ other. stale)
 
   pub bell-leaf : (bell : ℕ) (exit : Option ℕ)
-      → (nat_lt 0 (count_at h.table bell) ≡ true → P (record { shared = counter_read h bell; phase = Sweep }))
-      → (nat_lt 0 (count_at h.table bell) ≡ false → is_some exit ≡ true → P (record { shared = h; phase = Stopped Exit }))
-      → (nat_lt 0 (count_at h.table bell) ≡ false → is_some exit ≡ false → P (record { shared = h; phase = Idle }))
+      → P (record { shared = counter_read h bell; phase = Sweep })
+      → (count_at h.table bell ≡ 0 → P (record { shared = h; phase = cond (is_some exit) (Stopped Exit) Idle }))
       → P (after_bell h bell exit)
-  bell-leaf bell exit sweeps ends stale =
+  bell-leaf bell exit sweeps silent =
       cond_both {A = Local V} (nat_lt 0 (count_at h.table bell)) (record { shared = counter_read h bell; phase = Sweep }) (record { shared = h; phase = cond (is_some exit) (Stopped Exit) Idle }) P
-      sweeps
-      (λ zero. cond_both (is_some exit) (Stopped Exit) Idle (λ p. P (record { shared = h; phase = p })) (ends zero) (stale zero))
+      (λ above. sweeps)
+      (λ none. silent (let low = ltb-false 0 (count_at h.table bell) none in omega arith))
 
   pub listener-leaf : (list object token : ℕ)
       → (has_token (member_of (members_at h.table list) object) token ≡ true → P (record { shared = counter_read h object; phase = Heard token }))
-      → (has_token (member_of (members_at h.table list) object) token ≡ false → P (record { shared = h; phase = Idle }))
+      → P (record { shared = h; phase = Idle })
       → P (after_listener h list object token)
   listener-leaf list object token hears stale =
-      cond_both {A = Local V} (has_token (member_of (members_at h.table list) object) token) (record { shared = counter_read h object; phase = Heard token }) (record { shared = h; phase = Idle }) P hears stale
+      cond_both {A = Local V} (has_token (member_of (members_at h.table list) object) token) (record { shared = counter_read h object; phase = Heard token }) (record { shared = h; phase = Idle }) P hears (λ other. stale)
 
-  -- an event is a kick, the bell or the exit object, or a listener
-  pub event-leaf : (g : Wiring) (k object token : ℕ)
+  -- by its token an event is a kick, the bell or the exit object, or a listener
+  pub token-leaf : (g : Wiring) (k object token : ℕ)
       → (token < length (queues_of g k) → P (after_kick h (slice_index (queues_of g k) token) object))
       → (length (queues_of g k) ≤ token → token ≡ g.queues → P (after_bell h (opened_at g k).bell (opened_at g k).exit))
       → (length (queues_of g k) ≤ token → (token ≡ g.queues → ⊥) → P (after_listener h (opened_at g k).list object token))
       → P (after_event g k h object token)
-  event-leaf g k object token kick bell listener =
+  token-leaf g k object token kick bell listener =
       cond_both {A = Local V} (nat_lt token (length (queues_of g k))) (after_kick h (slice_index (queues_of g k) token) object) (cond (token == g.queues) (after_bell h (opened_at g k).bell (opened_at g k).exit) (after_listener h (opened_at g k).list object token)) P
       (λ below. kick (ltb-true token (length (queues_of g k)) below))
       (λ past. cond_both {A = Local V} (token == g.queues) (after_bell h (opened_at g k).bell (opened_at g k).exit) (after_listener h (opened_at g k).list object token) P
@@ -120,19 +116,20 @@ none-leaf {V} h Q q tells stays = cond_both {A = Shared V} (may_take (ring_at h 
 pub event-shared : {V : Type 0} (g : Wiring) (k : ℕ) (h : Shared V) (Q : Shared V → Type 0) (object token : ℕ) → Q h → ((o : ℕ) → Q (counter_read h o)) → Q (after_event g k h object token).shared
 event-shared {V} g k h Q object token stays reads =
     let P : Local V → Type 0 = λ l. Q l.shared in
-    event-leaf h P g k object token
-    (λ below. kick-leaf h P (slice_index (queues_of g k) token) object (λ own on. reads object) (λ own off. reads object) (λ other. stays))
-    (λ past same. bell-leaf h P (opened_at g k).bell (opened_at g k).exit (λ above. reads (opened_at g k).bell) (λ zero some. stays) (λ zero none. stays))
-    (λ past other. listener-leaf h P (opened_at g k).list object token (λ own. reads object) (λ stale. stays))
+    token-leaf h P g k object token
+    (λ below. kick-leaf h P (slice_index (queues_of g k) token) object (λ own. reads object) stays)
+    (λ past same. bell-leaf h P (opened_at g k).bell (opened_at g k).exit (reads (opened_at g k).bell) (λ zero. stays))
+    (λ past other. listener-leaf h P (opened_at g k).list object token (λ own. reads object) stays)
 
 -- the phase after an Event: what it may be
 pub event-phase : {V : Type 0} (g : Wiring) (k : ℕ) (h : Shared V) (Q : Phase → Type 0) (object token : ℕ) → Q Idle → (token < length (queues_of g k) → Q (Serving (slice_index (queues_of g k) token ∷ []))) → Q Sweep → Q (Stopped Exit) → Q (Heard token) → Q (after_event g k h object token).phase
 event-phase {V} g k h Q object token idle serves sweeps ends hears =
     let P : Local V → Type 0 = λ l. Q l.phase in
-    event-leaf h P g k object token
-    (λ below. kick-leaf h P (slice_index (queues_of g k) token) object (λ own on. serves below) (λ own off. idle) (λ other. idle))
-    (λ past same. bell-leaf h P (opened_at g k).bell (opened_at g k).exit (λ above. sweeps) (λ zero some. ends) (λ zero none. idle))
-    (λ past other. listener-leaf h P (opened_at g k).list object token (λ own. hears) (λ stale. idle))
+    let queue = slice_index (queues_of g k) token in
+    token-leaf h P g k object token
+    (λ below. kick-leaf h P queue object (λ own. cond_both (is_on (ring_at h queue)) (Serving (queue ∷ [])) Idle Q (λ on. serves below) (λ off. idle)) idle)
+    (λ past same. bell-leaf h P (opened_at g k).bell (opened_at g k).exit sweeps (λ zero. cond_both (is_some (opened_at g k).exit) (Stopped Exit) Idle Q (λ some. ends) (λ none. idle)))
+    (λ past other. listener-leaf h P (opened_at g k).list object token (λ own. hears) idle)
 
 -- a Put is done, or refused
 pub said-cases : (said : Result Bool PutFault) (P : Result Bool PutFault → Type 0)

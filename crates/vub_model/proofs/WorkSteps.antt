@@ -1,6 +1,6 @@
 -- What a worker's Event, Take and Put lead to, where the schedule invariant holds.
-use Rattle.std.proofs.Common.{◌≡◌, ℕ, ◌<◌, Bool, true, false, cond, inl, inr, List, [], ◌∷◌, length, Option, is_some, sym, ◌∙◌, subst, arith, eqb, nat_lt}
-use Rattle.std.proofs.lemmas.Bool.{cond_both, cond-true, lt-ltb, le-ltb, ltb-false, eq-eqb, ne_eqb}
+use Rattle.std.proofs.Common.{◌≡◌, ℕ, ◌<◌, ◌≤◌, Bool, true, cond, inl, inr, List, [], ◌∷◌, length, slice_index, is_some, sym, ◌∙◌, subst, arith}
+use Rattle.std.proofs.lemmas.Bool.{cond-true}
 use Rattle.vub_queue.specs.declared.chain.Chain.{Chain}
 use Rattle.vub_queue.specs.declared.took.Took.{Took}
 use Rattle.vub_queue.specs.declared.took.Took.TheVariants as took
@@ -19,10 +19,10 @@ use Rattle.vub_model.specs.declared.ring_op.RingOp.TheVariants as op
 use Rattle.vub_model.specs.RingRecord.{Vring, is_on, changed}
 use Rattle.vub_model.specs.Shared.{Shared, ring_at, with_ring, count_at, counter_read}
 use Rattle.vub_model.specs.Wiring.{Wiring, opened_at, queues_of, IsPlaced}
-use Rattle.vub_model.specs.Work.{Local, serving, stopped, is_object, after_kick, after_bell, after_event, has_token, may_take, looked, entry_of, after_none, after_take, put_said, why_of, used, called, after_put, after_said}
+use Rattle.vub_model.specs.Work.{Local, serving, stopped, is_object, after_kick, after_listener, after_event, has_token, may_take, looked, entry_of, after_none, after_take, put_said, why_of, used, called, after_put, after_said}
 use Rattle.vub_model.specs.Schedule.{PhaseFits}
 use Rattle.vub_model.proofs.Places.{slot, few-queues}
-use Rattle.vub_model.proofs.Cases.{take-leaf as look-leaf, said-cases}
+use Rattle.vub_model.proofs.Cases.{token-leaf, kick-leaf, bell-leaf, listener-leaf, take-leaf as look-leaf, said-cases}
 use Rattle.vub_model.proofs.Live.{Live, live-parts, live-from, looked-live, live-taken}
 
 -- what an op leaves that fits and does not wait
@@ -30,19 +30,7 @@ abbrev pub taken-ring : Vring → Vring
 taken-ring r = changed r op.Taken
 
 module _ {V : Type 0} (g : Wiring) (worker : ℕ) (h : Shared V) (P : Local V → Type 0) where
-  kick-leaf : (queue object : ℕ)
-      → (is_object (ring_at h queue).kick object ≡ true → P (record { shared = counter_read h object; phase = cond (is_on (ring_at h queue)) (Serving (queue ∷ [])) Idle }))
-      → P (record { shared = h; phase = Idle }) → P (after_kick h queue object)
-  kick-leaf queue object reads stale =
-      cond_both (is_object (ring_at h queue).kick object) (record { shared = counter_read h object; phase = cond (is_on (ring_at h queue)) (Serving (queue ∷ [])) Idle }) (record { shared = h; phase = Idle }) P reads (λ other. stale)
-
-  bell-leaf : (bell : ℕ) (exit : Option ℕ)
-      → P (record { shared = counter_read h bell; phase = Sweep })
-      → (count_at h.table bell ≡ 0 → P (record { shared = h; phase = cond (is_some exit) (Stopped Exit) Idle })) → P (after_bell h bell exit)
-  bell-leaf bell exit sweeps silent =
-      cond_both (nat_lt 0 (count_at h.table bell)) (record { shared = counter_read h bell; phase = Sweep }) (record { shared = h; phase = cond (is_some exit) (Stopped Exit) Idle }) P (λ above. sweeps) (λ none. silent (let low = ltb-false 0 (count_at h.table bell) none in omega arith))
-
-  -- an event is a kick, that is read or stale, or the bell
+  -- an event is a kick, that is read or stale, or the bell or the exit object, or a listener
   pub event-leaf : (object token : ℕ) → PhaseFits g worker (Polled object token)
       → ((queue : ℕ) → IsPlaced g queue worker token → is_object (ring_at h queue).kick object ≡ true → P (record { shared = counter_read h object; phase = cond (is_on (ring_at h queue)) (Serving (queue ∷ [])) Idle }))
       → P (record { shared = h; phase = Idle })
@@ -50,18 +38,17 @@ module _ {V : Type 0} (g : Wiring) (worker : ℕ) (h : Shared V) (P : Local V �
       → (count_at h.table (opened_at g worker).bell ≡ 0 → P (record { shared = h; phase = cond (is_some (opened_at g worker).exit) (Stopped Exit) Idle }))
       → (g.queues < token → has_token (member_of (members_at h.table (opened_at g worker).list) object) token ≡ true → P (record { shared = counter_read h object; phase = Heard token }))
       → P (after_event g worker h object token)
-  event-leaf object token (inl is) reads stale sweeps silent hears =
-      let past : nat_lt token (length (queues_of g worker)) ≡ false = le-ltb token (length (queues_of g worker)) (omega (arith, few-queues g worker, is)) in
-      let here : eqb token g.queues ≡ true = eq-eqb token g.queues is in
-      rw (past, here) (bell-leaf (opened_at g worker).bell (opened_at g worker).exit sweeps silent)
-  event-leaf object token (inr (inr high)) reads stale sweeps silent hears =
-      let past : nat_lt token (length (queues_of g worker)) ≡ false = le-ltb token (length (queues_of g worker)) (omega (arith, few-queues g worker, high)) in
-      let other : eqb token g.queues ≡ false = ne_eqb token g.queues (λ e. absurd (omega (arith, high, e))) in
-      rw (past, other) (cond_both {A = Local V} (has_token (member_of (members_at h.table (opened_at g worker).list) object) token) (record { shared = counter_read h object; phase = Heard token }) (record { shared = h; phase = Idle }) P (hears high) (λ not. stale))
-  event-leaf object token (inr (inl number)) reads stale sweeps silent hears =
-      let at = slot g number.0 worker token number.1 in
-      let below : nat_lt token (length (queues_of g worker)) ≡ true = lt-ltb token (length (queues_of g worker)) at.0 in
-      rw (below, at.1) (kick-leaf number.0 object (reads number.0 number.1) stale)
+  event-leaf object token fits reads stale sweeps silent hears =
+      token-leaf h P g worker object token (λ below. kick below fits) (λ past same. bell-leaf h P (opened_at g worker).bell (opened_at g worker).exit sweeps silent) (λ past other. listener past other fits) where
+        kick : token < length (queues_of g worker) → PhaseFits g worker (Polled object token) → P (after_kick h (slice_index (queues_of g worker) token) object)
+        kick below (inl is) = absurd (let few = few-queues g worker in omega (arith, few, below, is))
+        kick below (inr (inr high)) = absurd (let few = few-queues g worker in omega (arith, few, below, high))
+        kick below (inr (inl number)) = rw ((slot g number.0 worker token number.1).1) (kick-leaf h P number.0 object (reads number.0 number.1) stale)
+
+        listener : length (queues_of g worker) ≤ token → (token ≡ g.queues → ⊥) → PhaseFits g worker (Polled object token) → P (after_listener h (opened_at g worker).list object token)
+        listener past other (inl is) = absurd (other is)
+        listener past other (inr (inr high)) = listener-leaf h P (opened_at g worker).list object token (hears high) stale
+        listener past other (inr (inl number)) = absurd (let low = (slot g number.0 worker token number.1).0 in omega (arith, past, low))
 
   -- where a look at a live ring gives nothing, the ring is empty
   none-empty : (queue : ℕ) → looked h queue ≡ took.None → Live (ring_at h queue) → IsEmpty h.guest (ring_at h queue).queue

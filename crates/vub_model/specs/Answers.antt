@@ -43,8 +43,8 @@ AnswersItsBase old party.Control (play.Control Answering said) new =
     IsBaseAnswer old queue (answers_by old.shared Answering old.control.plan)
 AnswersItsBase old p l new = Unit {0}
 
--- Control's steps are those of the requests' plans, in order and plan by plan; each Answer gives what its plan says, and
--- one that tells a base tells the base at which the queue goes on elsewhere.
+-- Control's steps are those of the requests' plans, in order and plan by plan; each Answer gives what its plan says,
+-- and one that tells a base tells the base at which the queue goes on elsewhere.
 pub record FollowsPlans {V : Type 0} (m : Meaning V) (schedule : List ℕ) (plays : List Play)
     (w : World V) : Type 0 where
   pub steps : InOrder w.wiring w.control.plan w.control.requests (controls schedule plays)

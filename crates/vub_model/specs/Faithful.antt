@@ -42,9 +42,9 @@ pub record RingsBells {V : Type 0} (m : Meaning V) (schedule : List ℕ) (plays 
 -- from each base, and used each with the service's reply to the bytes read at taking, but for at most one in flight or
 -- held. An entry's number is its place in the ring, the first base is the given one, what was taken is what its chain
 -- holds in the memory of its turn, and a reply stands in the memory after its turn; a worker wrote no byte but those of
--- its step. Each request was answered as its plan says, a stop with the base at which the queue goes on elsewhere. Each
--- queue is served by the first worker whose mask has its bit, a worker with something pending hears of it, and at rest a
--- calm running queue has no entry left.
+-- its step. Each request was answered as its plan says, a stop with the base at which the queue goes on elsewhere.
+-- Each queue is served by the first worker whose mask has its bit, a worker with something pending hears of it, and at
+-- rest a calm running queue has no entry left.
 pub record IsFaithful {V : Type 0} (m : Meaning V) (constants : Constants) (setup : Setup) (v : V)
     (schedule : List ℕ) (plays : List Play) (closing : World V) : Type 0 where
   pub served : IsServed m schedule plays (opening constants setup v) closing
