@@ -1,6 +1,6 @@
 -- Control follows the plans of its requests: its steps are theirs in order, each Answer gives what its plan says, and one
 -- that tells a base tells the base at which the queue goes on elsewhere.
-use Rattle.std.proofs.Common.{◌≡◌, ℕ, zero, suc, ◌+◌, ◌%◌, ◌^◌, List, [], ◌∷◌, ◌++◌, length, refl, sym, ap, ◌∙◌, subst, append-nil, arith}
+use Rattle.std.proofs.Common.{◌≡◌, ℕ, zero, suc, ◌+◌, ◌%◌, ◌^◌, List, [], ◌∷◌, ◌++◌, length, refl, sym, ap, ◌∙◌, subst, arith}
 use Rattle.std.proofs.lemmas.List.{length-append}
 use Rattle.vub_mem.specs.declared.region.Region.{Region}
 use Rattle.vub_proto.specs.declared.answer.Answer.TheVariants as answer

@@ -1,7 +1,7 @@
 -- What a loop that plays a run may rely on at each turn: what the next step of control names is there, a request that is
 -- yet to begin has the same plan after a turn of another party, and control has no step exactly where its plan is at its
 -- end or waits.
-use Rattle.std.proofs.Common.{◌≡◌, ◌↔◌, ℕ, suc, ◌<◌, Bool, true, false, List, [], ◌∷◌, length, Option, Some, None, is_some, refl, sym, ap, ◌∙◌, subst}
+use Rattle.std.proofs.Common.{◌≡◌, ◌↔◌, ℕ, ◌<◌, Bool, true, false, List, [], ◌∷◌, length, Option, Some, None, is_some, refl, sym, ap, ◌∙◌, subst}
 use Rattle.std.specs.List.{AllByRecursion}
 use Rattle.std.proofs.Math.ListN.{get_or-map}
 use Rattle.vub_event.specs.declared.event.Event.{Event}
@@ -18,9 +18,10 @@ use Rattle.vub_model.specs.declared.setup.Guest.{Guest}
 use Rattle.vub_model.specs.declared.setup.Setup.{Setup}
 use Rattle.vub_model.specs.declared.small.Small.{Small}
 use Rattle.vub_model.specs.declared.small.Small.TheVariants.{Claim, Add, Delete, Listen, Unlisten}
-use Rattle.vub_model.specs.Control.{Control, waits_now, StandsStill, MayControl, tail_of, begun, begun_from}
+use Rattle.vub_model.specs.Control.{Control, waits_now, StandsStill, MayControl, tail_of, begun, begun_from, played}
 use Rattle.vub_model.specs.Frame.{Frame, claim_of, frame_of, is_there}
-use Rattle.vub_model.specs.Opening.{opening, wiring_of}
+use Rattle.vub_model.specs.Opening.{opening, wiring_of, new_control}
+use Rattle.vub_model.specs.Plans.{plan_of}
 use Rattle.vub_model.specs.RunOf.{HasNoStep, Turn}
 use Rattle.vub_model.specs.Schedule.{Safe, Fits, First, IsKickAt, RequestFits, NamesThere, Invariant}
 use Rattle.vub_model.specs.Service.{Meaning}
@@ -168,6 +169,43 @@ module _ {V : Type 0} (m : Meaning V) (n : ℕ) (w : World V) (sound : IsSound n
   names-kept p z l turn requests all =
       let P : List Bool → Type 0 = λ events. AllByRecursion (NamesThere events) requests in
       subst P (sym (events-kept p z l turn)) all
+
+-- A control whose next request is yet to begin
+
+-- the world's control is this one with its next request begun, if one is due
+abbrev pub StandsFor : {V : Type 0} → World V → Control → Type 0
+StandsFor w c = w.control ≡ begun w.wiring w.shared c
+
+-- so it is at the opening with the set-up's requests, none begun
+pub opening-stands-for : {V : Type 0} (constants : Constants) (setup : Setup) (v : V) → StandsFor (opening constants setup v) (new_control setup)
+unfolding opening
+opening-stands-for constants setup v = refl
+
+-- and after a step of control with what that step makes of it
+pub played-stands-for : {V : Type 0} (w : World V) (s : Small) (said : DeviceSaid) → StandsFor (after_control w s said) (played w.wiring w.shared w.control s said)
+played-stands-for w s said = refl
+
+-- and it stays so in the turns of other parties
+pub stands-for-kept : {V : Type 0} (m : Meaning V) (n : ℕ) (w : World V) → IsSound n w → (p : Party) (z : World V) → (p ≡ party.Control → ⊥) → (l : Play) → Turn m w p l z → (c : Control) → StandsFor w c → StandsFor z c
+stands-for-kept m n w sound p z other l turn c is = (turn-leaves m n w sound p z other l turn).control ∙ (is ∙ sym (begun-kept m n w sound p z other l turn c))
+
+module _ {V : Type 0} (g : Wiring) (h : Shared V) (c : Control) where
+  -- where a step is left, nothing begins
+  pub begun-goes : (s : Small) (rest : List Small) → c.plan.steps ≡ s ∷ rest → begun g h c ≡ c
+  begun-goes s rest is = ap (λ steps. begun_from g (frame_of h) h.guest.regions c steps c.requests) is
+
+  -- nor where no request is left
+  pub begun-ends : c.plan.steps ≡ [] → c.requests ≡ [] → begun g h c ≡ c
+  begun-ends is none =
+      ap (λ steps. begun_from g (frame_of h) h.guest.regions c steps c.requests) is
+      ∙ ap (λ requests. begun_from g (frame_of h) h.guest.regions c [] requests) none
+
+  -- else the next request does
+  pub begun-next : (r : Request) (more : List Request) → c.plan.steps ≡ [] → c.requests ≡ r ∷ more
+      → begun g h c ≡ record c { plan = plan_of g (frame_of h) h.guest.regions c.session r; requests = more }
+  begun-next r more is are =
+      ap (λ steps. begun_from g (frame_of h) h.guest.regions c steps c.requests) is
+      ∙ ap (λ requests. begun_from g (frame_of h) h.guest.regions c [] requests) are
 
 -- What requests name
 

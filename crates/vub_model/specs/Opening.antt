@@ -26,7 +26,6 @@ use Rattle.vub_model.specs.ValidSetup.{contents_from, given_region}
 use Rattle.vub_model.specs.Shared.{Shared, raised, inserted}
 use Rattle.vub_mem.specs.declared.mapping.Mapping.{Mapping}
 use Rattle.vub_proto.specs.declared.answer.Answer.TheVariants as answer
-use Rattle.vub_proto.specs.declared.request.Request.{Request}
 use Rattle.vub_model.specs.declared.session.Session.{Session}
 use Rattle.vub_model.specs.declared.setup.GivenRegion.{GivenRegion}
 use Rattle.vub_model.specs.Plans.{says}
