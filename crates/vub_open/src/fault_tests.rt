@@ -8,7 +8,7 @@ use vub_mem::Region;
 use vub_model::{
     Constants, DriveFault, GivenRegion, GivenRing, Guest, Info, Object, Setup, SetupFault,
 };
-use vub_proto::FixedDevice;
+use vub_proto::{FixedDevice, Request};
 
 /// An object of a case: an event, or a content of this many zeros.
 #[derive(Clone, Copy)]
@@ -24,6 +24,19 @@ enum Action {
     Store(u32, u64, usize),
 }
 
+/// A request of a case, which names these objects.
+#[derive(Clone, Copy)]
+enum Ask {
+    Features,
+    Table(&'static [u32]),
+    Kick(u32),
+    NoCall,
+    Socket(u32),
+    Log(u32),
+    /// A worker and an event.
+    Listen(u32, u32),
+}
+
 /// A set-up for a device, and the fault for which it is refused.
 #[derive(Clone, Copy)]
 struct Case {
@@ -35,6 +48,7 @@ struct Case {
     objects: &'static [Part],
     regions: &'static [GivenRegion],
     rings: &'static [GivenRing],
+    requests: &'static [Ask],
     guest: &'static [Action],
     fault: Option<SetupFault>,
 }
@@ -88,6 +102,7 @@ const SOUND: Case = Case {
     objects: &[Part::Event, Part::Event, Part::Event, Part::Content(64)],
     regions: &[REGION],
     rings: &[RING, OTHER],
+    requests: &[Ask::Features, Ask::Kick(2)],
     guest: &[Action::Signal(0), Action::Store(3, 60, 4)],
     fault: None,
 };
@@ -348,6 +363,82 @@ fn ring_cases() -> [Case; 13] {
     ]
 }
 
+/// A case with these requests.
+const fn request_case(
+    name: &'static str,
+    requests: &'static [Ask],
+    fault: Option<SetupFault>,
+) -> Case {
+    Case {
+        name,
+        requests,
+        fault,
+        ..SOUND
+    }
+}
+
+/// Faults of the requests.
+fn request_cases() -> [Case; 10] {
+    let second = Some(SetupFault::Request(1));
+    [
+        request_case(
+            "no event, a socket of any object, a listener",
+            &[
+                Ask::NoCall,
+                Ask::Socket(3),
+                Ask::Listen(0, 2),
+                Ask::Table(&[3, 3]),
+            ],
+            None,
+        ),
+        request_case(
+            "a kick that is a content",
+            &[Ask::NoCall, Ask::Kick(3)],
+            second,
+        ),
+        request_case(
+            "a kick that is missing",
+            &[Ask::NoCall, Ask::Kick(4)],
+            second,
+        ),
+        request_case(
+            "a table of an event",
+            &[Ask::Table(&[]), Ask::Table(&[3, 0])],
+            second,
+        ),
+        request_case(
+            "a missing socket",
+            &[Ask::Socket(0), Ask::Socket(4)],
+            second,
+        ),
+        request_case("a log", &[Ask::Features, Ask::Log(3)], second),
+        request_case(
+            "a listener of no worker",
+            &[Ask::Listen(0, 0), Ask::Listen(1, 0)],
+            second,
+        ),
+        request_case(
+            "a listener of a content",
+            &[Ask::Listen(0, 0), Ask::Listen(0, 3)],
+            second,
+        ),
+        Case {
+            name: "a faulty ring comes first",
+            rings: &[GivenRing { size: 16, ..RING }],
+            requests: &[Ask::Kick(4)],
+            fault: Some(SetupFault::Ring(0)),
+            ..SOUND
+        },
+        Case {
+            name: "a faulty action comes behind",
+            requests: &[Ask::Kick(4)],
+            guest: &[Action::Signal(4)],
+            fault: Some(SetupFault::Request(0)),
+            ..SOUND
+        },
+    ]
+}
+
 /// A case with these actions.
 const fn guest_case(
     name: &'static str,
@@ -438,10 +529,45 @@ fn action_of(alloc: Global, action: Action) -> Result<Guest, OutOfMemory> {
     }
 }
 
+fn request_of(alloc: Global, ask: Ask) -> Result<Request, OutOfMemory> {
+    Ok(match ask {
+        Ask::Features => Request::GetFeatures,
+        Ask::Table(contents) => Request::SetMemTable {
+            parts: Listed::new(alloc),
+            contents: Listed::from_vec(Vec::from_slice(alloc, contents)?),
+            postcopy: None,
+        },
+        Ask::Kick(event) => Request::SetVringKick {
+            queue: 0,
+            event: Some(event),
+        },
+        Ask::NoCall => Request::SetVringCall {
+            queue: 0,
+            event: None,
+        },
+        Ask::Socket(object) => Request::SetGpuSocket { object },
+        Ask::Log(object) => Request::SetLogBase {
+            size: 1,
+            offset: 0,
+            object,
+        },
+        Ask::Listen(worker, event) => Request::RegisterListener {
+            worker,
+            event,
+            set: 1,
+            token: 9,
+        },
+    })
+}
+
 fn setup_of(alloc: Global, case: &Case) -> Result<Setup, OutOfMemory> {
     let mut objects = Listed::new(alloc);
     for part in case.objects {
         objects.push(object_of(alloc, *part)?)?;
+    }
+    let mut requests = Listed::new(alloc);
+    for ask in case.requests {
+        requests.push(request_of(alloc, *ask)?)?;
     }
     let mut guest = Listed::new(alloc);
     for action in case.guest {
@@ -453,6 +579,7 @@ fn setup_of(alloc: Global, case: &Case) -> Result<Setup, OutOfMemory> {
         objects,
         regions: Listed::from_vec(regions),
         rings: Listed::from_vec(rings),
+        requests,
         guest,
     })
 }
@@ -506,6 +633,11 @@ fn the_first_fault_of_a_table_is_told(rt: HostRuntime) -> Result<(), Fail> {
 #[test]
 fn the_first_faulty_ring_is_told(rt: HostRuntime) -> Result<(), Fail> {
     test_cases(&rt, rt.alloc(), &ring_cases())
+}
+
+#[test]
+fn the_first_faulty_request_is_told(rt: HostRuntime) -> Result<(), Fail> {
+    test_cases(&rt, rt.alloc(), &request_cases())
 }
 
 #[test]

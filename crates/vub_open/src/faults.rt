@@ -1,4 +1,4 @@
-//! The tests of a set-up, but for the one of its region table.
+//! The tests of a set-up, but for those of its region table and of its requests.
 ghost use Rattle.std.specs.Prelude.{◌≡◌, not, position, take, [], is_some};
 ghost use Rattle.std.specs.List.{list_all};
 ghost use Rattle.vub_model.specs.Work.{is_object};
@@ -20,7 +20,7 @@ const MAX_SIZE: usize = 32768;
 
 /// Whether the object is an event of the set-up.
 #[tactic(auto, unfolding(vub_model::specs::ValidSetup::is_event))]
-fn is_event(objects: &[Object], number: u32) -> bool
+pub(crate) fn is_event(objects: &[Object], number: u32) -> bool
     ensures { result ≡ is_event objects.now number }
 {
     match objects.get(number as usize) {
@@ -30,7 +30,7 @@ fn is_event(objects: &[Object], number: u32) -> bool
 }
 
 /// Whether the object is an event of the set-up, if there is one.
-fn is_event_or_none(objects: &[Object], number: Option<u32>) -> bool
+pub(crate) fn is_event_or_none(objects: &[Object], number: Option<u32>) -> bool
     ensures { result ≡ is_event_or_none objects.now number }
 {
     match number {
@@ -41,7 +41,7 @@ fn is_event_or_none(objects: &[Object], number: Option<u32>) -> bool
 
 /// How many bytes the object has, if it is a content of the set-up.
 #[tactic(auto, unfolding(vub_model::specs::ValidSetup::content_len))]
-fn content_len(objects: &[Object], number: u32) -> Option<u64>
+pub(crate) fn content_len(objects: &[Object], number: u32) -> Option<u64>
     ensures { result ≡ content_len objects.now number }
 {
     match objects.get(number as usize) {

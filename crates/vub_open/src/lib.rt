@@ -12,6 +12,7 @@ mod new_rings;
 mod opening;
 mod places;
 mod registering;
+mod requests;
 mod validation;
 
 pub use constants::read_constants;

@@ -2,10 +2,11 @@
 ghost use Rattle.std.specs.Prelude.{◌≡◌, ◌+◌, ◌<◌, ◌^◌, [], ◌∷◌, ◌++◌, length, map, None, IsTrue, IfOk, IfErr, OnOk, OnErr};
 ghost use Rattle.std.specs.List.{AllByRecursion};
 ghost use Rattle.vub_mem.specs.Memory.{Guest};
-ghost use Rattle.vub_model.specs.ValidSetup.{or_else, contents_from, given_region, device_fault, region_fault, given_table_fault, ring_fault, guest_fault, fault_of};
+ghost use Rattle.vub_model.specs.ValidSetup.{or_else, contents_from, given_region, device_fault, region_fault, given_table_fault, ring_fault, request_fault, guest_fault, fault_of};
 ghost use Rattle.vub_open.specs.Refused.{IsRefusal};
 
 use crate::faults::{device_fault, guest_fault, region_fault, ring_fault};
+use crate::requests::request_fault;
 use std::alloc::Global;
 use vub_base::{Bytes, OutOfMemory};
 use vub_mem::{GuestMemory, Region};
@@ -125,10 +126,14 @@ fn fault_before(constants: &Constants, setup: &Setup) -> Option<SetupFault>
 /// The first test that fails of those that are made behind the region table.
 fn fault_behind(constants: &Constants, setup: &Setup) -> Option<SetupFault>
     ensures { result ≡ or_else (ring_fault constants.now setup.now.objects [] setup.now.rings)
-        (guest_fault setup.now.objects setup.now.guest) }
+        (or_else (request_fault constants.now setup.now.objects setup.now.requests)
+        (guest_fault setup.now.objects setup.now.guest)) }
 {
     let objects = setup.objects.as_slice();
-    match ring_fault(constants, objects, setup.rings.as_slice()) {
+    if let Some(fault) = ring_fault(constants, objects, setup.rings.as_slice()) {
+        return Some(fault);
+    }
+    match request_fault(constants, objects, setup.requests.as_slice()) {
         Some(fault) => Some(fault),
         None => guest_fault(objects, setup.guest.as_slice()),
     }
