@@ -128,6 +128,7 @@ module _ {V : Type 0} (before now : Player) (was left : Begun) (s : Small) (refu
       let m = acts.1 in (
         acts.0,
         record {
+          first = first;
           row = told-map old.shared new.shared _ _ (λ a b row named. map-fault (row-played a b acts.0 (first a.guest.regions) (rest a.guest.regions b.guest.regions)) (fault-played a b (rest a.guest.regions a.guest.regions)) (row named)) m.row;
           refusal = m.refusal;
           device = m.device;
@@ -251,6 +252,7 @@ module _ {V D : Type 0} (t : Telling D) (before : Player) (was left : Begun) (o 
   table-played s caused rest told = (
     outcome.Done,
     record {
+      first = λ rs. (let P : Plan → Type 0 = λ p. p.steps ≡ Table o ∷ tail_of p.steps in subst P (sym (at-table rs)) refl);
       row = told-map old.shared new.shared _ _ (λ a b call named. by-row old.NeverFails (HasFailed old new) _ (table-row-played (table_turn s) a b (rest a b call) (table-row before.wiring a b s o call))) told;
       refusal = refl;
       device = uncalled t old.device new.device uncalled-device;
@@ -295,6 +297,7 @@ pub answer_played : {V D : Type 0} (t : Telling D) (before now : Player) (was le
 answer_played {V} t before now was left x old new at step kept rest settled told device = (
   outcome.Done,
   record {
+    first = λ rs. (let P : Plan → Type 0 = λ p. p.steps ≡ Answering ∷ tail_of p.steps in subst P (sym (plan-none was rs at)) (answer-first was.plan.steps step));
     row = told-map old.shared new.shared _ _ (λ a b due named. by-row old.NeverFails (HasFailed old new) _ (row a b due)) told;
     refusal = refl;
     device = uncalled t old.device new.device device;

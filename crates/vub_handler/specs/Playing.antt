@@ -1,6 +1,7 @@
 -- What a session plays of a request: its first step that is left, as the machine's control plays it.
 use Rattle.std.specs.Prelude.{◌≡◌, ◌⊎◌, true, List, [], ◌∷◌, map, slice_set, option_to_list, Option, Some, None, Result}
 use Rattle.std.specs.Prelude.{IfOk, OnErr}
+use Rattle.vub_mem.specs.declared.region.Region.{Region}
 use Rattle.vub_proto.specs.declared.answer.Answer.{Answer}
 use Rattle.vub_proto.specs.declared.answer.Answer.TheVariants as answer
 use Rattle.vub_proto.specs.declared.answer.Cause.TheVariants as cause
@@ -10,7 +11,7 @@ use Rattle.vub_model.specs.declared.small.Small.{Small}
 use Rattle.vub_model.specs.declared.small.Small.TheVariants.{Set}
 use Rattle.vub_model.specs.declared.wiring.Known.{Known}
 use Rattle.vub_model.specs.Control.{small_after, waits_now, rest_after, MayControl, session_by, answers_by, answer_of}
-use Rattle.vub_model.specs.Control.{instead}
+use Rattle.vub_model.specs.Control.{instead, tail_of}
 use Rattle.vub_model.specs.DeviceCalls.{Telling, is_refused}
 use Rattle.vub_model.specs.Frame.{known_of}
 use Rattle.vub_model.specs.FrameSteps.{known_after}
@@ -73,9 +74,10 @@ abbrev pub IsCausedReply : Type 0 → Type 0 → Reply → Type 0
 IsCausedReply Failed Refused (says a) = IsCausedAnswer Failed Refused a
 IsCausedReply Failed Refused r = Unit {0}
 
--- A step was played, in which the device said this.
+-- The first step was played, in which the device said this.
 pub record IsPlayed {V D : Type 0} (t : Telling D) (p : Played) (said : DeviceSaid) (before now : Player)
     (was left : Begun) (old new : PartsState V D) : Type 0 where
+  pub first : (rs : List Region) → (plan_at rs was).steps ≡ p.small ∷ tail_of (plan_at rs was).steps
   pub row :
       Tells old new (λ a b.
       IsNamed before.wiring a.table p.small

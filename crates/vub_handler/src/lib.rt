@@ -17,6 +17,7 @@ mod ringing;
 mod turns;
 
 pub use acted::Acted;
+pub use copies::copied_call;
 pub use error::VhostUserHandlerError;
 pub use handler::VhostUserHandler;
 pub use played::{Played, Progress};
