@@ -1,16 +1,16 @@
 -- The rows of the small steps that call the host.
-use Rattle.std.proofs.Common.{◌≡◌, ℕ, ◌+◌, ◌<◌, ◌≤◌, Bool, true, false, nat_lt, nat_eq, not, ◌||◌, ◌&&◌, if◌then◌else◌, is_some, List, [], ◌∷◌, length, slice_set, Option, Some, None, refl, ap, sym, subst, ◌∙◌, arith}
+use Rattle.std.proofs.Common.{◌≡◌, ℕ, ◌≤◌, Bool, true, false, nat_eq, not, ◌||◌, ◌&&◌, if◌then◌else◌, is_some, List, [], ◌∷◌, length, Option, Some, None, refl, ap, sym, subst, ◌∙◌, arith}
 use Rattle.std.proofs.lemmas.Bool.Decides.{nat_tests}
 use Rattle.std.proofs.lemmas.List.{set-get_or, get_or_past, set_past}
 use Rattle.vub_base.specs.Told.{Told}
 use Rattle.vub_event.specs.declared.error.HostError.{HostError}
-use Rattle.vub_event.specs.declared.error.HostError.TheVariants.{WouldBlock, EINVAL, EEXIST, ENOENT, EBADF, Held}
+use Rattle.vub_event.specs.declared.error.HostError.TheVariants.{EEXIST, ENOENT, EBADF, Held}
 use Rattle.vub_event.specs.declared.event.Event.{Event}
 use Rattle.vub_event.specs.declared.member.Member.{Member}
 use Rattle.vub_event.specs.Counter.{write_refusal, written}
 use Rattle.vub_event.specs.HostTable.{HostTable, event_at, has_event, has_list, members_at, member_at, is_listed, with_event, with_members}
 use Rattle.vub_event.specs.HostCalls.{due_of, with_change, may_claim, claim_test, claim_refusal, claim_after, has_both, add_refusal, add_after, delete_refusal, delete_after, listen_refusal, unlisten_refusal, is_claimed, has_token_above, signal_refusal, signal_after, listener}
-use Rattle.vub_event.specs.InterestList.{member_of, with_member, without_member}
+use Rattle.vub_event.specs.InterestList.{member_of, without_member}
 use Rattle.vub_model.specs.declared.small.Small.TheVariants.{Claim, Add, Delete, Listen, Unlisten, Bell}
 use Rattle.vub_model.specs.declared.wiring.Opened.{Opened}
 use Rattle.vub_model.specs.Control.{can_claim, can_add, can_listen, can_unlisten, instead, drop_two}

@@ -1,12 +1,11 @@
 -- The rows of the small steps that change pending sets, rings and guest memory, and that call the device.
-use Rattle.std.proofs.Common.{◌≡◌, ℕ, Bool, true, false, not, ◌&&◌, if◌then◌else◌, List, [], ◌∷◌, Option, Some, None, refl, ap, sym, subst, ◌∙◌}
+use Rattle.std.proofs.Common.{◌≡◌, ℕ, Bool, true, false, not, ◌&&◌, if◌then◌else◌, List, [], Option, Some, None, refl, ap, sym, subst, ◌∙◌}
 use Rattle.std.proofs.lemmas.List.{set-get_or}
 use Rattle.vub_base.specs.Told.{Told}
 use Rattle.vub_mem.specs.Memory.{Guest}
 use Rattle.vub_mem.specs.declared.errors.MemError.{MemError}
 use Rattle.vub_mem.specs.declared.region.Region.{Region}
 use Rattle.vub_proto.specs.declared.answer.Answer.TheVariants as answer
-use Rattle.vub_proto.specs.declared.answer.Cause.TheVariants as cause
 use Rattle.vub_proto.specs.declared.answer.VhostUserError.TheVariants as error
 use Rattle.vub_proto.specs.declared.device_op.DeviceOp.{DeviceOp}
 use Rattle.vub_proto.specs.declared.device_said.DeviceSaid.{DeviceSaid}
@@ -18,14 +17,13 @@ use Rattle.vub_model.specs.declared.ring_op.RingSaid.TheVariants as ring_said
 use Rattle.vub_model.specs.declared.small.Small.{Small}
 use Rattle.vub_model.specs.declared.small.Small.TheVariants.{Remove, Insert, Set, Info, Table, Device}
 use Rattle.vub_model.specs.declared.small.TableOp.{TableOp}
-use Rattle.vub_model.specs.Control.{IsOutcome, used_index_covers, table_refusal, regions_unless, after_refusal, after_outcome, instead, told, waits_now, next_used_at}
+use Rattle.vub_model.specs.Control.{IsOutcome, used_index_covers, regions_unless, after_refusal, after_outcome, told, waits_now, next_used_at}
 use Rattle.vub_model.specs.DeviceCalls.{Call, Telling, is_refused, moved_by}
 use Rattle.vub_model.specs.DeviceCalls as device_calls
 use Rattle.vub_model.specs.Plans.{Plan, regions_after}
 use Rattle.vub_model.specs.RingRecord.{Vring, closed_ring, waits, fits, changed, is_in_flight, said_in_time, ring_after}
 use Rattle.vub_model.specs.Shared.{Shared, ring_at, with_ring}
 use Rattle.vub_model.specs.Wiring.{Wiring}
-use Rattle.vub_ring.specs.Play.{info_said, info_after}
 use Rattle.vub_ring.specs.declared.ops.PendOp.TheVariants as pend
 use Rattle.vub_ring.specs.declared.ops.PendSaid.{PendSaid}
 use Rattle.vub_ring.specs.declared.ops.PendSaid.TheVariants as pend_said
@@ -38,7 +36,7 @@ use Rattle.vub_vring.specs.PartsState.{PartsState, HasFailed}
 use Rattle.vub_plan.specs.declared.half.Turn.{Turn}
 use Rattle.vub_plan.specs.declared.half.Turn.TheVariants as turn
 use Rattle.vub_plan.specs.Halves.{turned}
-use Rattle.vub_handler.specs.Acting.{info_turn, table_turn, device_turn, IsRowOf, IsRow, IsCaused, HasRefused, RowBy, IsMade, Acts, IsStill, called, CallsBy}
+use Rattle.vub_handler.specs.Acting.{info_turn, table_turn, device_turn, IsRowOf, IsRow, IsCaused, HasRefused, RowBy, IsMade, Acts, called, CallsBy}
 use Rattle.vub_handler.specs.declared.acted.Acted.TheVariants.{Made, Waits}
 use Rattle.vub_handler.proofs.Telling.{told-map, by-row}
 

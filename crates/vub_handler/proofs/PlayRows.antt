@@ -1,38 +1,29 @@
 -- What a play leaves of a session, by what its step leaves.
-use Rattle.std.proofs.Common.{◌≡◌, ℕ, ◌≤◌, Bool, true, false, ◌⊎◌, inl, inr, List, [], ◌∷◌, length, map, slice_set, option_to_list, Option, Some, None, refl, ap, sym, subst, ◌∙◌}
+use Rattle.std.proofs.Common.{◌≡◌, ℕ, ◌≤◌, true, false, ◌⊎◌, inl, inr, List, length, map, slice_set, Option, Some, None, refl, ap, sym, ◌∙◌}
 use Rattle.std.proofs.lemmas.List.{set-get_or, set_past, map-set}
 use Rattle.std.proofs.Math.Seq.{map-set_same}
 use Rattle.std.proofs.Math.ListN.{get_or-map}
 use Rattle.vub_base.specs.Told.{Told}
-use Rattle.vub_mem.specs.declared.region.Region.{Region}
 use Rattle.vub_proto.specs.declared.answer.Answer.{Answer}
 use Rattle.vub_proto.specs.declared.answer.Answer.TheVariants as answer
-use Rattle.vub_proto.specs.declared.device_said.DeviceSaid.{DeviceSaid}
-use Rattle.vub_proto.specs.declared.device_said.DeviceSaid.TheVariants as outcome
 use Rattle.vub_model.specs.declared.ring_op.RingOp.TheVariants as op
 use Rattle.vub_model.specs.declared.ring_op.RingSaid.{RingSaid}
 use Rattle.vub_model.specs.declared.ring_op.RingSaid.TheVariants as ring_said
-use Rattle.vub_model.specs.declared.session.Session.{Session}
 use Rattle.vub_model.specs.declared.small.Small.{Small}
 use Rattle.vub_model.specs.declared.small.Small.TheVariants.{Claim, Release, Add, Delete, Listen, Unlisten, Bell, Remove, Insert, Set, Info, Table, Log, Device, Answer as Answering}
 use Rattle.vub_model.specs.declared.wiring.Known.{Known}
-use Rattle.vub_model.specs.Control.{small_after, waits_now, next_used_at, rest_after, session_by, answers_by, answer_of, tail_of, instead}
+use Rattle.vub_model.specs.Control.{small_after, waits_now, next_used_at, answer_of}
 use Rattle.vub_model.specs.Frame.{known_of}
 use Rattle.vub_model.specs.FrameSteps.{known_after}
-use Rattle.vub_model.specs.Plans.{Reply, says, next_of, Plan}
+use Rattle.vub_model.specs.Plans.{says, next_of}
 use Rattle.vub_model.specs.RingRecord.{closed_ring, ring_after}
-use Rattle.vub_model.specs.Shared.{Shared, ring_at, with_ring}
+use Rattle.vub_model.specs.Shared.{Shared, ring_at}
 use Rattle.vub_model.specs.Wiring.{Wiring}
 use Rattle.vub_model.proofs.FrameSmall.{known-changed, info-kept}
 use Rattle.vub_vring.specs.Calls.{RingCall}
-use Rattle.vub_plan.specs.declared.half.Head.TheVariants as head
-use Rattle.vub_plan.specs.declared.half.Stage.TheVariants as stage
-use Rattle.vub_plan.specs.declared.half.Turn.{Turn}
-use Rattle.vub_plan.specs.Halves.{Begun, plan_at, dropped, turned, stage_of}
 use Rattle.vub_plan.specs.Wires.{known_in}
-use Rattle.vub_handler.specs.Acting.{RowOrFault, IsRowOf, IsRow, IsFaultOf, host_failed, calls_host}
-use Rattle.vub_handler.specs.Player.{Player}
-use Rattle.vub_handler.specs.Playing.{IsKnown, known_by, IsPlayRow, IsPlayFault}
+use Rattle.vub_handler.specs.Acting.{calls_host}
+use Rattle.vub_handler.specs.Playing.{known_by}
 use Rattle.vub_handler.proofs.Telling.{told-map}
 
 -- What is known

@@ -1,12 +1,9 @@
 -- A play, by what its call of the parts leaves and by what becomes of the request that is under way.
-use Rattle.std.proofs.Common.{◌≡◌, ℕ, Bool, true, false, ◌⊎◌, inl, inr, if◌then◌else◌, List, [], ◌∷◌, map, Option, Some, None, refl, ap, sym, subst, ◌∙◌}
+use Rattle.std.proofs.Common.{◌≡◌, Bool, false, ◌⊎◌, inl, inr, if◌then◌else◌, List, [], ◌∷◌, map, Option, Some, None, refl, ap, sym, subst, ◌∙◌}
 use Rattle.vub_base.specs.Told.{Told}
 use Rattle.vub_mem.specs.declared.errors.MemError.{MemError}
 use Rattle.vub_mem.specs.declared.region.Region.{Region}
 use Rattle.vub_proto.specs.declared.answer.Answer.{Answer}
-use Rattle.vub_proto.specs.declared.answer.Answer.TheVariants as answer
-use Rattle.vub_proto.specs.declared.answer.Cause.TheVariants as cause
-use Rattle.vub_proto.specs.declared.answer.VhostUserError.TheVariants as error
 use Rattle.vub_proto.specs.declared.device_op.DeviceOp.TheVariants as device
 use Rattle.vub_proto.specs.declared.device_said.DeviceSaid.{DeviceSaid}
 use Rattle.vub_proto.specs.declared.device_said.DeviceSaid.TheVariants as outcome
@@ -15,11 +12,10 @@ use Rattle.vub_model.specs.declared.small.Small.{Small}
 use Rattle.vub_model.specs.declared.small.Small.TheVariants.{Claim, Release, Add, Delete, Listen, Unlisten, Bell, Remove, Insert, Set, Info, Table, Log, Device, Answer as Answering}
 use Rattle.vub_model.specs.declared.small.TableOp.{TableOp}
 use Rattle.vub_model.specs.declared.wiring.Known.{Known}
-use Rattle.vub_model.specs.Control.{small_after, MayControl, session_by, answers_by, answer_of, is_refusal, tail_of, instead}
+use Rattle.vub_model.specs.Control.{MayControl, session_by, answers_by, answer_of, is_refusal, tail_of}
 use Rattle.vub_model.specs.DeviceCalls.{Telling}
 use Rattle.vub_model.specs.Frame.{known_of}
-use Rattle.vub_model.specs.Plans.{Plan, Reply, says, regions_after}
-use Rattle.vub_model.specs.RingRecord.{Vring}
+use Rattle.vub_model.specs.Plans.{Plan, Reply}
 use Rattle.vub_model.specs.Shared.{Shared}
 use Rattle.vub_model.specs.Wiring.{Wiring}
 use Rattle.vub_vring.specs.declared.ops.TableSaid.{TableSaid}
@@ -35,9 +31,9 @@ use Rattle.vub_plan.specs.Halves.{Begun, with_head, plan_at, dropped, turned, st
 use Rattle.vub_handler.specs.declared.acted.Acted.{Acted}
 use Rattle.vub_handler.specs.declared.acted.Acted.TheVariants.{Made}
 use Rattle.vub_handler.specs.declared.played.Played.{Played}
-use Rattle.vub_handler.specs.Acting.{RowOrFault, IsRowOf, IsRow, IsFaultOf, HasRefused, IsCaused, host_failed, table_turn, IsMade, IsStill, Acts}
+use Rattle.vub_handler.specs.Acting.{RowOrFault, IsRowOf, IsFaultOf, HasRefused, IsCaused, table_turn, IsStill, Acts}
 use Rattle.vub_handler.specs.Player.{Player}
-use Rattle.vub_handler.specs.Playing.{IsKnown, known_by, WaitsAt, IsPlayRow, host_answer, IsPlayFault, IsCausedReply, IsPlayed, IsHeld, PlayedBy}
+use Rattle.vub_handler.specs.Playing.{known_by, WaitsAt, IsPlayRow, IsPlayFault, IsCausedReply, IsHeld, PlayedBy}
 use Rattle.vub_handler.proofs.PartRows.{table-row, uncalled}
 use Rattle.vub_handler.proofs.PlayRows.{known-small, host-known}
 use Rattle.vub_handler.proofs.Telling.{told-map, by-row}

@@ -1,5 +1,5 @@
 -- What is told of a call, and rows that hold or that a fault of the host takes the place of.
-use Rattle.std.proofs.Common.{◌≡◌, Option, Some, None, inl, inr}
+use Rattle.std.proofs.Common.{◌≡◌, Option, Some, None, inl}
 use Rattle.vub_base.specs.Told.{Told}
 use Rattle.vub_event.specs.declared.error.HostError.{HostError}
 use Rattle.vub_event.specs.declared.error.HostError.TheVariants.{WouldBlock, EINVAL, EEXIST, ENOENT, EBADF, ENOBUFS, Failed, Held, OutOfMemory}

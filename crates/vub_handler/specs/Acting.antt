@@ -1,6 +1,6 @@
 -- What one small step says of its parts, and what it makes of the rest of its plan: its row; or a fault of the host,
 -- at which nothing changes and the request is refused.
-use Rattle.std.specs.Prelude.{◌≡◌, ◌⊎◌, ℕ, Bool, true, false, List, [], ◌∷◌, Option, Result, IfOk, OnErr}
+use Rattle.std.specs.Prelude.{◌≡◌, ◌⊎◌, Bool, true, false, List, [], ◌∷◌, Result, IfOk, OnErr}
 use Rattle.vub_base.specs.Causes.{Rose}
 use Rattle.vub_base.specs.Told.{Told}
 use Rattle.vub_event.specs.HostTable.{HostTable, has_event}

@@ -1,5 +1,5 @@
 -- A session as control plays it.
-use Rattle.std.specs.Prelude.{ℕ, List, [], replicate, Bool, false, Result, Ok, Err, Option, Some, None}
+use Rattle.std.specs.Prelude.{ℕ, List, [], replicate, false, Result, Ok, Err, Option, Some, None}
 use Rattle.vub_mem.specs.declared.errors.MemError.{MemError}
 use Rattle.vub_model.specs.declared.session.Session.{Session}
 use Rattle.vub_model.specs.declared.wiring.Known.{Known}

@@ -1,7 +1,6 @@
 -- What a session plays of a request: its first step that is left, as the machine's control plays it.
-use Rattle.std.specs.Prelude.{◌≡◌, ◌⊎◌, ℕ, Bool, true, List, [], ◌∷◌, map, slice_set, option_to_list, Option, Some, None}
-use Rattle.std.specs.Prelude.{Result, IfOk, OnErr}
-use Rattle.vub_event.specs.HostTable.{HostTable}
+use Rattle.std.specs.Prelude.{◌≡◌, ◌⊎◌, true, List, [], ◌∷◌, map, slice_set, option_to_list, Option, Some, None, Result}
+use Rattle.std.specs.Prelude.{IfOk, OnErr}
 use Rattle.vub_mem.specs.declared.region.Region.{Region}
 use Rattle.vub_proto.specs.declared.answer.Answer.{Answer}
 use Rattle.vub_proto.specs.declared.answer.Answer.TheVariants as answer

@@ -126,7 +126,8 @@ pub(crate) fn unlisten<P: Parts>(
     object: u32,
     above: u64,
 ) -> Result<Turn, OutOfMemory>
-    ensures row { TurnsBy wired.now (Small.Unlisten worker object above) result (P.state parts.old) (P.state parts.new) }
+    ensures row { TurnsBy wired.now (Small.Unlisten worker object above) result
+        (P.state parts.old) (P.state parts.new) }
     ensures cause { CausedBy result (P.state parts.old) (P.state parts.new) }
     ensures frame { PlainFrame (P.state parts.old) (P.state parts.new) result }
 {

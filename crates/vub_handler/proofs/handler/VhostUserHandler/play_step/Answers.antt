@@ -1,7 +1,7 @@
 use Rattle.std.proofs.Common.{◌≡◌, List, refl, ap, ◌∙◌}
 use Rattle.vub_model.specs.declared.small.Small.{Small}
 use Rattle.vub_model.specs.declared.wiring.Known.{Known}
-use Rattle.vub_plan.specs.Halves.{Begun, turned}
+use Rattle.vub_plan.specs.Halves.{turned}
 use Rattle.vub_handler.specs.Player.{Player}
 use Rattle.vub_handler.specs.Playing.{known_by}
 use Rattle.vub_handler.proofs.PlaySteps.{step_from}
