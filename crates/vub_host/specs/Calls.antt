@@ -3,14 +3,16 @@ use Rattle.std.specs.Prelude.{ℕ, ◌≡◌, List, ◌++◌, length, take, drop
 use Rattle.vub_event.specs.declared.error.HostError.{HostError}
 use Rattle.vub_event.specs.declared.ready.Ready.{Ready}
 use Rattle.vub_event.specs.HostTable.{HostTable, IsNextNumber, ready_members}
-use Rattle.vub_event.specs.HostCalls.{Meets, create_list_after, list_refusal, member_for, AddCall, ModifyCall, DeleteCall}
+use Rattle.vub_event.specs.HostCalls.{Meets, create_list_after, list_refusal, member_for, AddCall, ModifyCall}
+use Rattle.vub_event.specs.HostCalls.{DeleteCall}
 use Rattle.vub_host.specs.declared.epoll.EpollEvent.{EpollEvent}
 use Rattle.vub_host.specs.declared.epoll.ControlOperation.{ControlOperation}
 use Rattle.vub_host.specs.declared.epoll.ControlOperation.TheVariants.{Add, Delete, Modify}
 
 -- a new interest list
 abbrev pub MakesList : {T : Type 0} → (T → ℕ) → Result T HostError → HostTable → HostTable → Type 0
-MakesList number result old = Meets None (λ made. IsNextNumber old.lists (number made)) (create_list_after old) result old
+MakesList number result old =
+    Meets None (λ made. IsNextNumber old.lists (number made)) (create_list_after old) result old
 
 -- the event that reports a ready member
 abbrev pub event_of : Ready → EpollEvent
@@ -21,10 +23,13 @@ abbrev pub events_of : HostTable → ℕ → ℕ → List EpollEvent
 events_of table list most = map event_of (take most (ready_members table list))
 
 -- add, delete or modify by an event's bits and data
-abbrev pub ControlCall : {T : Type 0} → ControlOperation → ℕ → ℕ → EpollEvent → Result T HostError → HostTable → HostTable → Type 0
-ControlCall Add list object event result = AddCall list (member_for object (record { 0 = event.events }) event.raw) result
+abbrev pub ControlCall :
+    {T : Type 0} → ControlOperation → ℕ → ℕ → EpollEvent → Result T HostError → HostTable → HostTable → Type 0
+ControlCall Add list object event result =
+    AddCall list (member_for object (record { 0 = event.events }) event.raw) result
 ControlCall Delete list object event result = DeleteCall list object result
-ControlCall Modify list object event result = ModifyCall list (member_for object (record { 0 = event.events }) event.raw) result
+ControlCall Modify list object event result =
+    ModifyCall list (member_for object (record { 0 = event.events }) event.raw) result
 
 -- a wait that fills the front of a slice, and answers how many events it wrote
 abbrev pub WaitCall : ℕ → List EpollEvent → List EpollEvent → Result ℕ HostError → HostTable → HostTable → Type 0

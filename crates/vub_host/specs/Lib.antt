@@ -9,6 +9,8 @@ pub use Rattle.vub_event.specs.HostCalls
 pub use Rattle.vub_event.specs.HostTable
 pub use Rattle.vub_event.specs.InterestList
 pub use Rattle.vub_event.specs.Laws
+pub use Rattle.vub_util.specs.Errno
 pub mod Calls
 pub mod PollEvents
+pub mod Refusals
 pub mod Waits

@@ -1,4 +1,5 @@
-ghost use Rattle.std.specs.Prelude.{◌≡◌, ◌≤◌, ◌∷◌, [], ◌++◌, ◌%◌, ◌^◌, Some, None, if◌then◌else◌, ◌==◌, IfOk, OnErr, length, take, drop, map, min};
+ghost use Rattle.std.specs.Prelude.{◌≡◌, ◌≤◌, ◌∷◌, [], ◌++◌, ◌%◌, ◌^◌, Some, None, if◌then◌else◌, ◌==◌, IfOk, OnErr};
+ghost use Rattle.std.specs.Prelude.{length, take, drop, map, min};
 ghost use Rattle.std.specs.Int.{cast_signed, w32};
 ghost use Rattle.std.specs.Int.RustNames.{bit_or};
 ghost use Rattle.vub_base.specs.Told.{Told};
@@ -9,6 +10,7 @@ ghost use Rattle.vub_host.specs.Calls.{MakesList, ControlCall, WaitCall, event_o
 use bitflags::Flags;
 use std::alloc::Global;
 use std::fmt::{Debug, Formatter, Write};
+use std::marker::Model;
 use vub_event::{EventSet, Host, HostError, Ready};
 
 /// What [`Epoll::ctl`] does.
@@ -65,7 +67,8 @@ impl EpollEvent {
 
     /// Its bits as a set; None exactly for an unknown bit.
     pub fn event_set(&self) -> Option<EventSet>
-        ensures { result ≡ (if bit_or self.now.events 0xf000201f == 0xf000201f then Some record { 0 = self.now.events } else None) }
+        ensures { result ≡ (if bit_or self.now.events 0xf000201f == 0xf000201f
+            then Some record { 0 = self.now.events } else None) }
     {
         if self.events | EpollEvent::KNOWN == EpollEvent::KNOWN {
             Some(EventSet::from_bits_retain(self.events))
@@ -89,10 +92,18 @@ impl EpollEvent {
     }
 }
 
-/// An interest list of a host: epoll(7).
+/// An interest list of a host: epoll(7). A contract sees the number of the list.
 #[derive(Debug, Drop)]
 pub struct Epoll {
     list: u32,
+}
+
+impl Model for Epoll {
+    ghost use Rattle.std.specs.Prelude.{ℕ};
+
+    ghost Value = { ℕ };
+
+    ghost view = { λ epoll. epoll.list };
 }
 
 impl Epoll {
@@ -101,12 +112,20 @@ impl Epoll {
     /// # Errors
     /// As [`Host::create_list`].
     pub fn new<H: Host>(alloc: Global, host: &mut H) -> Result<Epoll, HostError>
-        ensures faults { CountsFaults (H.fault_count host.old) (H.fault_count host.new) (H.never_fails host.old) (H.never_fails host.new) result }
+        ensures faults { CountsFaults (H.fault_count host.old) (H.fault_count host.new) (H.never_fails host.old)
+            (H.never_fails host.new) result }
         ensures refusals { RefusesBy result (HostError.Failed ∷ HostError.OutOfMemory ∷ []) }
-        ensures table { Told (H.held host.old) (H.held host.new) (MakesList (λ epoll. epoll.list) result) }
+        ensures table { Told (H.held host.old) (H.held host.new) (MakesList (λ epoll. epoll) result) }
     {
         let list = host.create_list(alloc)?;
         Ok(Epoll { list })
+    }
+
+    /// The number of its list.
+    pub fn list(&self) -> u32
+        ensures { result ≡ self.now }
+    {
+        self.list
     }
 
     /// Adds, modifies or deletes the member for this object. The event's bits are the member's set, its data the
@@ -122,9 +141,13 @@ impl Epoll {
         object: u32,
         event: EpollEvent,
     ) -> Result<(), HostError>
-        ensures faults { CountsFaults (H.fault_count host.old) (H.fault_count host.new) (H.never_fails host.old) (H.never_fails host.new) result }
-        ensures refusals { RefusesBy result (HostError.Failed ∷ HostError.EINVAL ∷ HostError.EEXIST ∷ HostError.ENOENT ∷ HostError.EBADF ∷ HostError.OutOfMemory ∷ []) }
-        ensures table { Told (H.held host.old) (H.held host.new) (ControlCall operation self.now.list object event result) }
+        ensures faults { CountsFaults (H.fault_count host.old) (H.fault_count host.new) (H.never_fails host.old)
+            (H.never_fails host.new) result }
+        ensures refusals { RefusesBy result
+            (HostError.Failed ∷ HostError.EINVAL ∷ HostError.EEXIST ∷ HostError.ENOENT ∷ HostError.EBADF
+            ∷ HostError.OutOfMemory ∷ []) }
+        ensures table { Told (H.held host.old) (H.held host.new)
+            (ControlCall operation self.now object event result) }
     {
         let set = EventSet::from_bits_retain(event.events);
         match operation {
@@ -145,11 +168,12 @@ impl Epoll {
         host: &mut H,
         events: &mut [EpollEvent],
     ) -> Result<usize, HostError>
-        ensures faults { CountsFaults (H.fault_count host.old) (H.fault_count host.new) (H.never_fails host.old) (H.never_fails host.new) result }
+        ensures faults { CountsFaults (H.fault_count host.old) (H.fault_count host.new) (H.never_fails host.old)
+            (H.never_fails host.new) result }
         ensures refusals { RefusesBy result (HostError.Failed ∷ HostError.EBADF ∷ HostError.OutOfMemory ∷ []) }
         ensures room { IfOk result (λ n. n ≤ length events.old) }
         ensures err { OnErr result (events.new ≡ events.old) }
-        ensures table { Told (H.held host.old) (H.held host.new) (WaitCall self.now.list events.old events.new result) }
+        ensures table { Told (H.held host.old) (H.held host.new) (WaitCall self.now events.old events.new result) }
     {
         let ready = host.ready_many(alloc, self.list, events.len())?;
         Ok(write_events(events, &ready))

@@ -1,4 +1,5 @@
-ghost use Rattle.std.specs.Prelude.{◌≡◌, ◌∷◌, [], ◌==◌, ◌/◌, ◌^◌, ◌-◌, ◌+◌, if◌then◌else◌, min, pos, negsuc, true, is_ok, IfOk, OnErr};
+ghost use Rattle.std.specs.Prelude.{◌≡◌, ◌∷◌, [], ◌==◌, ◌/◌, ◌^◌, ◌-◌, ◌+◌, if◌then◌else◌, min, pos, negsuc, true};
+ghost use Rattle.std.specs.Prelude.{is_ok, IfOk, OnErr};
 ghost use Rattle.std.specs.Duration.{as_nanos};
 ghost use Rattle.std.specs.Int.RustNames.{bit_or};
 ghost use Rattle.vub_base.specs.Told.{Told};
@@ -12,7 +13,7 @@ use crate::poll_token::PollToken;
 use bitflags::Flags;
 use log::{Log, warn};
 use std::alloc::Global;
-use std::marker::PhantomData;
+use std::marker::{Model, PhantomData};
 use std::time::Duration;
 use vub_event::{EventSet, Host, HostError};
 
@@ -60,7 +61,8 @@ impl WatchingEvents {
 /// The timeout in the unit of epoll_wait(2): -1 exactly at `i64::MAX` seconds, which stands for no end, else the whole
 /// milliseconds, at most `i32::MAX`.
 pub fn timeout_millis(timeout: Duration) -> i32
-    ensures { result ≡ (if as_nanos timeout / 1_000_000_000 == 2 ^ 63 - 1 then negsuc 0 else pos (min 2147483647 (as_nanos timeout / 1_000_000))) }
+    ensures { result ≡ (if as_nanos timeout / 1_000_000_000 == 2 ^ 63 - 1
+        then negsuc 0 else pos (min 2147483647 (as_nanos timeout / 1_000_000))) }
 {
     if timeout.as_secs() == 9_223_372_036_854_775_807 {
         return -1;
@@ -73,11 +75,19 @@ pub fn timeout_millis(timeout: Duration) -> i32
     }
 }
 
-/// An interest list whose members are named by tokens.
-#[derive(Drop)]
+/// An interest list whose members are named by tokens. A contract sees the number of the list.
+#[derive(Debug, Drop)]
 pub struct EpollContext<T> {
     list: u32,
     tokens: PhantomData<T>,
+}
+
+impl<T> Model for EpollContext<T> {
+    ghost use Rattle.std.specs.Prelude.{ℕ};
+
+    ghost Value = { ℕ };
+
+    ghost view = { λ context. context.list };
 }
 
 impl<T: PollToken> EpollContext<T> {
@@ -88,13 +98,21 @@ impl<T: PollToken> EpollContext<T> {
     /// # Errors
     /// As [`Host::create_list`].
     pub fn new<H: Host>(alloc: Global, host: &mut H) -> Result<EpollContext<T>, HostError>
-        ensures faults { CountsFaults (H.fault_count host.old) (H.fault_count host.new) (H.never_fails host.old) (H.never_fails host.new) result }
+        ensures faults { CountsFaults (H.fault_count host.old) (H.fault_count host.new) (H.never_fails host.old)
+            (H.never_fails host.new) result }
         ensures refusals { RefusesBy result (HostError.Failed ∷ HostError.OutOfMemory ∷ []) }
-        ensures table { Told (H.held host.old) (H.held host.new) (MakesList (λ context. context.list) result) }
+        ensures table { Told (H.held host.old) (H.held host.new) (MakesList (λ context. context) result) }
     {
         let list = host.create_list(alloc)?;
         let tokens = PhantomData;
         Ok(EpollContext { list, tokens })
+    }
+
+    /// The number of its list.
+    pub fn list(&self) -> u32
+        ensures { result ≡ self.now }
+    {
+        self.list
     }
 
     /// Adds an object that is to be readable.
@@ -110,9 +128,12 @@ impl<T: PollToken> EpollContext<T> {
     ) -> Result<(), HostError>
     where
         T: Drop,
-        ensures faults { CountsFaults (H.fault_count host.old) (H.fault_count host.new) (H.never_fails host.old) (H.never_fails host.new) result }
-        ensures refusals { RefusesBy result (HostError.Failed ∷ HostError.EINVAL ∷ HostError.EEXIST ∷ HostError.EBADF ∷ HostError.OutOfMemory ∷ []) }
-        ensures table { Told (H.held host.old) (H.held host.new) (AddCall self.now.list (member_for object (record { 0 = 1 }) (T.raw_of token)) result) }
+        ensures faults { CountsFaults (H.fault_count host.old) (H.fault_count host.new) (H.never_fails host.old)
+            (H.never_fails host.new) result }
+        ensures refusals { RefusesBy result
+            (HostError.Failed ∷ HostError.EINVAL ∷ HostError.EEXIST ∷ HostError.EBADF ∷ HostError.OutOfMemory ∷ []) }
+        ensures table { Told (H.held host.old) (H.held host.new)
+            (AddCall self.now (member_for object (record { 0 = 1 }) (T.raw_of token)) result) }
     {
         let set = EventSet::IN;
         host.add(alloc, self.list, object, set, token.as_raw_token())
@@ -132,9 +153,12 @@ impl<T: PollToken> EpollContext<T> {
     ) -> Result<(), HostError>
     where
         T: Drop,
-        ensures faults { CountsFaults (H.fault_count host.old) (H.fault_count host.new) (H.never_fails host.old) (H.never_fails host.new) result }
-        ensures refusals { RefusesBy result (HostError.Failed ∷ HostError.EINVAL ∷ HostError.EEXIST ∷ HostError.EBADF ∷ HostError.OutOfMemory ∷ []) }
-        ensures table { Told (H.held host.old) (H.held host.new) (AddCall self.now.list (member_for object (record { 0 = events.0 }) (T.raw_of token)) result) }
+        ensures faults { CountsFaults (H.fault_count host.old) (H.fault_count host.new) (H.never_fails host.old)
+            (H.never_fails host.new) result }
+        ensures refusals { RefusesBy result
+            (HostError.Failed ∷ HostError.EINVAL ∷ HostError.EEXIST ∷ HostError.EBADF ∷ HostError.OutOfMemory ∷ []) }
+        ensures table { Told (H.held host.old) (H.held host.new)
+            (AddCall self.now (member_for object (record { 0 = events.0 }) (T.raw_of token)) result) }
     {
         let set = EventSet::from_bits_retain(events.get_raw());
         host.add(alloc, self.list, object, set, token.as_raw_token())
@@ -153,9 +177,12 @@ impl<T: PollToken> EpollContext<T> {
     ) -> Result<(), HostError>
     where
         T: Drop,
-        ensures faults { CountsFaults (H.fault_count host.old) (H.fault_count host.new) (H.never_fails host.old) (H.never_fails host.new) result }
-        ensures refusals { RefusesBy result (HostError.Failed ∷ HostError.EINVAL ∷ HostError.ENOENT ∷ HostError.EBADF ∷ []) }
-        ensures table { Told (H.held host.old) (H.held host.new) (ModifyCall self.now.list (member_for object (record { 0 = events.0 }) (T.raw_of token)) result) }
+        ensures faults { CountsFaults (H.fault_count host.old) (H.fault_count host.new) (H.never_fails host.old)
+            (H.never_fails host.new) result }
+        ensures refusals { RefusesBy result
+            (HostError.Failed ∷ HostError.EINVAL ∷ HostError.ENOENT ∷ HostError.EBADF ∷ []) }
+        ensures table { Told (H.held host.old) (H.held host.new)
+            (ModifyCall self.now (member_for object (record { 0 = events.0 }) (T.raw_of token)) result) }
     {
         let set = EventSet::from_bits_retain(events.get_raw());
         host.modify(self.list, object, set, token.as_raw_token())
@@ -166,14 +193,16 @@ impl<T: PollToken> EpollContext<T> {
     /// # Errors
     /// As [`Host::delete`].
     pub fn delete<H: Host>(&self, host: &mut H, object: u32) -> Result<(), HostError>
-        ensures faults { CountsFaults (H.fault_count host.old) (H.fault_count host.new) (H.never_fails host.old) (H.never_fails host.new) result }
+        ensures faults { CountsFaults (H.fault_count host.old) (H.fault_count host.new) (H.never_fails host.old)
+            (H.never_fails host.new) result }
         ensures refusals { RefusesBy result (HostError.Failed ∷ HostError.ENOENT ∷ HostError.EBADF ∷ []) }
-        ensures table { Told (H.held host.old) (H.held host.new) (DeleteCall self.now.list object result) }
+        ensures table { Told (H.held host.old) (H.held host.new) (DeleteCall self.now object result) }
     {
         host.delete(self.list, object)
     }
 
-    /// The events of the first ready members by object number, at most 16, which then stand in `events` too. It doesn't wait.
+    /// The events of the first ready members by object number, at most 16, which then stand in `events` too. It doesn't
+    /// wait.
     ///
     /// # Errors
     /// As [`Host::ready_many`]; then `events` stays.
@@ -183,10 +212,11 @@ impl<T: PollToken> EpollContext<T> {
         host: &mut H,
         events: &mut EpollEvents,
     ) -> Result<PollEvents<T>, HostError>
-        ensures faults { CountsFaults (H.fault_count host.old) (H.fault_count host.new) (H.never_fails host.old) (H.never_fails host.new) result }
+        ensures faults { CountsFaults (H.fault_count host.old) (H.fault_count host.new) (H.never_fails host.old)
+            (H.never_fails host.new) result }
         ensures refusals { RefusesBy result (HostError.Failed ∷ HostError.EBADF ∷ HostError.OutOfMemory ∷ []) }
         ensures after { events.new ≡ events_after_wait result events.old }
-        ensures table { Told (H.held host.old) (H.held host.new) (PollCall (λ polled. polled.events) self.now.list result) }
+        ensures table { Told (H.held host.old) (H.held host.new) (PollCall (λ polled. polled) self.now result) }
     {
         events.fill(alloc, host, self.list)?;
         Ok(events.polled())
@@ -203,17 +233,20 @@ impl<T: PollToken> EpollContext<T> {
         events: &mut EpollEvents,
         _timeout: Duration,
     ) -> Result<PollEvents<T>, HostError>
-        ensures faults { CountsFaults (H.fault_count host.old) (H.fault_count host.new) (H.never_fails host.old) (H.never_fails host.new) result }
+        ensures faults { CountsFaults (H.fault_count host.old) (H.fault_count host.new) (H.never_fails host.old)
+            (H.never_fails host.new) result }
         ensures refusals { RefusesBy result (HostError.Failed ∷ HostError.EBADF ∷ HostError.OutOfMemory ∷ []) }
         ensures after { events.new ≡ events_after_wait result events.old }
-        ensures table { Told (H.held host.old) (H.held host.new) (PollCall (λ polled. polled.events) self.now.list result) }
+        ensures table { Told (H.held host.old) (H.held host.new) (PollCall (λ polled. polled) self.now result) }
     {
         self.wait(alloc, host, events)
     }
 }
 
-/// A poll context that holds its events, and warns once of a loop that is kept busy by hung up objects.
-#[derive(Drop)]
+/// A poll context that holds its events, and warns once of a loop that is kept busy by hung up objects. A contract sees
+/// the number of its list, the events that are held, whether hang-ups are counted, and the counts of hang-ups and of
+/// members.
+#[derive(Debug, Drop)]
 pub struct PollContext<T> {
     context: EpollContext<T>,
     events: EpollEvents,
@@ -222,18 +255,33 @@ pub struct PollContext<T> {
     members: u64,
 }
 
+impl<T> Model for PollContext<T> {
+    ghost use Rattle.vub_host.specs.Waits.{Poll};
+
+    ghost Value = { Poll };
+
+    ghost view = { λ p. record {
+      list = p.context;
+      events = p.events;
+      checks = p.checks;
+      hangups = p.hangups;
+      members = p.members;
+    } };
+}
+
 impl<T: PollToken> PollContext<T> {
-    ghost use Rattle.vub_host.specs.Waits.{holding, poll_after_wait};
+    ghost use Rattle.vub_host.specs.Waits.{holding, new_poll, poll_after_wait};
 
     /// A new context with no member.
     ///
     /// # Errors
     /// As [`Host::create_list`].
     pub fn new<H: Host>(alloc: Global, host: &mut H) -> Result<PollContext<T>, HostError>
-        ensures faults { CountsFaults (H.fault_count host.old) (H.fault_count host.new) (H.never_fails host.old) (H.never_fails host.new) result }
+        ensures faults { CountsFaults (H.fault_count host.old) (H.fault_count host.new) (H.never_fails host.old)
+            (H.never_fails host.new) result }
         ensures refusals { RefusesBy result (HostError.Failed ∷ HostError.OutOfMemory ∷ []) }
-        ensures begins { IfOk result (λ poll. (poll.events ≡ []) × (poll.checks ≡ true) × (poll.hangups ≡ 0) × (poll.members ≡ 0)) }
-        ensures table { Told (H.held host.old) (H.held host.new) (MakesList (λ poll. poll.context.list) result) }
+        ensures begins { IfOk result (λ poll. poll ≡ new_poll poll.list) }
+        ensures table { Told (H.held host.old) (H.held host.new) (MakesList (λ poll. poll.list) result) }
     {
         let context = EpollContext::new(alloc, host)?;
         Ok(PollContext {
@@ -243,6 +291,13 @@ impl<T: PollToken> PollContext<T> {
             hangups: 0,
             members: 0,
         })
+    }
+
+    /// The number of its list.
+    pub fn list(&self) -> u32
+        ensures { result ≡ self.now.list }
+    {
+        self.context.list()
     }
 
     /// Whether hang-ups are counted from now on. At first they are.
@@ -265,11 +320,15 @@ impl<T: PollToken> PollContext<T> {
     ) -> Result<(), HostError>
     where
         T: Drop,
-        ensures faults { CountsFaults (H.fault_count host.old) (H.fault_count host.new) (H.never_fails host.old) (H.never_fails host.new) result }
-        ensures refusals { RefusesBy result (HostError.Failed ∷ HostError.EINVAL ∷ HostError.EEXIST ∷ HostError.EBADF ∷ HostError.OutOfMemory ∷ []) }
-        ensures same { self.new.context ≡ self.old.context }
-        ensures counts { self.new ≡ (if is_ok result then record self.old { hangups = 0; members = min (self.old.members + 1) (2 ^ 64 - 1) } else self.old) }
-        ensures table { Told (H.held host.old) (H.held host.new) (AddCall self.old.context.list (member_for object (record { 0 = 1 }) (T.raw_of token)) result) }
+        ensures faults { CountsFaults (H.fault_count host.old) (H.fault_count host.new) (H.never_fails host.old)
+            (H.never_fails host.new) result }
+        ensures refusals { RefusesBy result
+            (HostError.Failed ∷ HostError.EINVAL ∷ HostError.EEXIST ∷ HostError.EBADF ∷ HostError.OutOfMemory ∷ []) }
+        ensures same { self.new.list ≡ self.old.list }
+        ensures counts { self.new ≡ (if is_ok result
+            then record self.old { hangups = 0; members = min (self.old.members + 1) (2 ^ 64 - 1) } else self.old) }
+        ensures table { Told (H.held host.old) (H.held host.new)
+            (AddCall self.old.list (member_for object (record { 0 = 1 }) (T.raw_of token)) result) }
     {
         self.context.add(alloc, host, object, token)?;
         self.hangups = 0;
@@ -291,11 +350,15 @@ impl<T: PollToken> PollContext<T> {
     ) -> Result<(), HostError>
     where
         T: Drop,
-        ensures faults { CountsFaults (H.fault_count host.old) (H.fault_count host.new) (H.never_fails host.old) (H.never_fails host.new) result }
-        ensures refusals { RefusesBy result (HostError.Failed ∷ HostError.EINVAL ∷ HostError.EEXIST ∷ HostError.EBADF ∷ HostError.OutOfMemory ∷ []) }
-        ensures same { self.new.context ≡ self.old.context }
-        ensures counts { self.new ≡ (if is_ok result then record self.old { hangups = 0; members = min (self.old.members + 1) (2 ^ 64 - 1) } else self.old) }
-        ensures table { Told (H.held host.old) (H.held host.new) (AddCall self.old.context.list (member_for object (record { 0 = events.0 }) (T.raw_of token)) result) }
+        ensures faults { CountsFaults (H.fault_count host.old) (H.fault_count host.new) (H.never_fails host.old)
+            (H.never_fails host.new) result }
+        ensures refusals { RefusesBy result
+            (HostError.Failed ∷ HostError.EINVAL ∷ HostError.EEXIST ∷ HostError.EBADF ∷ HostError.OutOfMemory ∷ []) }
+        ensures same { self.new.list ≡ self.old.list }
+        ensures counts { self.new ≡ (if is_ok result
+            then record self.old { hangups = 0; members = min (self.old.members + 1) (2 ^ 64 - 1) } else self.old) }
+        ensures table { Told (H.held host.old) (H.held host.new)
+            (AddCall self.old.list (member_for object (record { 0 = events.0 }) (T.raw_of token)) result) }
     {
         self.context
             .add_fd_with_events(alloc, host, object, events, token)?;
@@ -317,10 +380,13 @@ impl<T: PollToken> PollContext<T> {
     ) -> Result<(), HostError>
     where
         T: Drop,
-        ensures faults { CountsFaults (H.fault_count host.old) (H.fault_count host.new) (H.never_fails host.old) (H.never_fails host.new) result }
-        ensures refusals { RefusesBy result (HostError.Failed ∷ HostError.EINVAL ∷ HostError.ENOENT ∷ HostError.EBADF ∷ []) }
+        ensures faults { CountsFaults (H.fault_count host.old) (H.fault_count host.new) (H.never_fails host.old)
+            (H.never_fails host.new) result }
+        ensures refusals { RefusesBy result
+            (HostError.Failed ∷ HostError.EINVAL ∷ HostError.ENOENT ∷ HostError.EBADF ∷ []) }
         ensures same { self.new ≡ self.old }
-        ensures table { Told (H.held host.old) (H.held host.new) (ModifyCall self.old.context.list (member_for object (record { 0 = events.0 }) (T.raw_of token)) result) }
+        ensures table { Told (H.held host.old) (H.held host.new)
+            (ModifyCall self.old.list (member_for object (record { 0 = events.0 }) (T.raw_of token)) result) }
     {
         self.context.modify(host, object, events, token)
     }
@@ -330,11 +396,13 @@ impl<T: PollToken> PollContext<T> {
     /// # Errors
     /// As [`Host::delete`].
     pub fn delete<H: Host>(&mut self, host: &mut H, object: u32) -> Result<(), HostError>
-        ensures faults { CountsFaults (H.fault_count host.old) (H.fault_count host.new) (H.never_fails host.old) (H.never_fails host.new) result }
+        ensures faults { CountsFaults (H.fault_count host.old) (H.fault_count host.new) (H.never_fails host.old)
+            (H.never_fails host.new) result }
         ensures refusals { RefusesBy result (HostError.Failed ∷ HostError.ENOENT ∷ HostError.EBADF ∷ []) }
-        ensures same { self.new.context ≡ self.old.context }
-        ensures counts { self.new ≡ (if is_ok result then record self.old { hangups = 0; members = self.old.members - 1 } else self.old) }
-        ensures table { Told (H.held host.old) (H.held host.new) (DeleteCall self.old.context.list object result) }
+        ensures same { self.new.list ≡ self.old.list }
+        ensures counts { self.new ≡ (if is_ok result
+            then record self.old { hangups = 0; members = self.old.members - 1 } else self.old) }
+        ensures table { Told (H.held host.old) (H.held host.new) (DeleteCall self.old.list object result) }
     {
         self.context.delete(host, object)?;
         self.hangups = 0;
@@ -349,13 +417,15 @@ impl<T: PollToken> PollContext<T> {
         host: &mut H,
         log: &R,
     ) -> Result<(), HostError>
-        ensures faults { CountsFaults (H.fault_count host.old) (H.fault_count host.new) (H.never_fails host.old) (H.never_fails host.new) result }
+        ensures faults { CountsFaults (H.fault_count host.old) (H.fault_count host.new) (H.never_fails host.old)
+            (H.never_fails host.new) result }
         ensures refusals { RefusesBy result (HostError.Failed ∷ HostError.EBADF ∷ HostError.OutOfMemory ∷ []) }
         ensures err { OnErr result (self.new ≡ self.old) }
         ensures ok { IfOk result (λ _. self.new ≡ holding self.old self.new.events) }
-        ensures table { Told (H.held host.old) (H.held host.new) (PollCall (λ _. self.new.events) self.old.context.list result) }
+        ensures table { Told (H.held host.old) (H.held host.new)
+            (PollCall (λ _. self.new.events) self.old.list result) }
     {
-        self.events.fill(alloc, host, self.context.list)?;
+        self.events.fill(alloc, host, self.context.list())?;
         if self.checks {
             let before = self.hangups;
             self.hangups = before.saturating_add(self.events.hangups());
@@ -378,9 +448,11 @@ impl<T: PollToken> PollContext<T> {
         log: &R,
     ) -> Result<PollEvents<T>, HostError>
         ensures after { self.new ≡ poll_after_wait result self.old }
-        ensures faults { CountsFaults (H.fault_count host.old) (H.fault_count host.new) (H.never_fails host.old) (H.never_fails host.new) result }
+        ensures faults { CountsFaults (H.fault_count host.old) (H.fault_count host.new) (H.never_fails host.old)
+            (H.never_fails host.new) result }
         ensures refusals { RefusesBy result (HostError.Failed ∷ HostError.EBADF ∷ HostError.OutOfMemory ∷ []) }
-        ensures table { Told (H.held host.old) (H.held host.new) (PollCall (λ polled. polled.events) self.old.context.list result) }
+        ensures table { Told (H.held host.old) (H.held host.new)
+            (PollCall (λ polled. polled) self.old.list result) }
     {
         self.poll(alloc, host, log)?;
         Ok(self.events.polled())
@@ -398,9 +470,11 @@ impl<T: PollToken> PollContext<T> {
         _timeout: Duration,
     ) -> Result<PollEvents<T>, HostError>
         ensures after { self.new ≡ poll_after_wait result self.old }
-        ensures faults { CountsFaults (H.fault_count host.old) (H.fault_count host.new) (H.never_fails host.old) (H.never_fails host.new) result }
+        ensures faults { CountsFaults (H.fault_count host.old) (H.fault_count host.new) (H.never_fails host.old)
+            (H.never_fails host.new) result }
         ensures refusals { RefusesBy result (HostError.Failed ∷ HostError.EBADF ∷ HostError.OutOfMemory ∷ []) }
-        ensures table { Told (H.held host.old) (H.held host.new) (PollCall (λ polled. polled.events) self.old.context.list result) }
+        ensures table { Told (H.held host.old) (H.held host.new)
+            (PollCall (λ polled. polled) self.old.list result) }
     {
         self.wait(alloc, host, log)
     }

@@ -10,6 +10,7 @@ ghost use Rattle.vub_host.specs.PollEvents.{meeting};
 use crate::epoll::{EpollEvent, write_events};
 use crate::poll_token::PollToken;
 use std::alloc::Global;
+use std::fmt::{Debug, Formatter, Write};
 use std::marker::{Model, PhantomData};
 use vub_base::OutOfMemory;
 use vub_event::{Host, HostError, Ready};
@@ -30,6 +31,12 @@ impl Model for EpollEvents {
     ghost view = { λ e. take e.count e.events };
 
     ghost invariant = { λ e. e.count ≤ 16 };
+}
+
+impl Debug for EpollEvents {
+    fn fmt<W: Write>(&self, f: &mut Formatter<W>) -> std::fmt::Result {
+        write!(f, "EpollEvents {:?}", self.as_slice())
+    }
 }
 
 impl Default for EpollEvents {
@@ -63,7 +70,7 @@ impl EpollEvents {
 
     /// A copy of the events, as those that a poll answers.
     pub(crate) fn polled<T: PollToken>(&self) -> PollEvents<T>
-        ensures { result.events ≡ self.now }
+        ensures { result ≡ self.now }
     {
         PollEvents {
             events: EpollEvents {
@@ -102,7 +109,8 @@ impl EpollEvents {
         host: &mut H,
         list: u32,
     ) -> Result<(), HostError>
-        ensures faults { CountsFaults (H.fault_count host.old) (H.fault_count host.new) (H.never_fails host.old) (H.never_fails host.new) result }
+        ensures faults { CountsFaults (H.fault_count host.old) (H.fault_count host.new) (H.never_fails host.old)
+            (H.never_fails host.new) result }
         ensures refusals { RefusesBy result (HostError.Failed ∷ HostError.EBADF ∷ HostError.OutOfMemory ∷ []) }
         ensures err { OnErr result (self.new ≡ self.old) }
         ensures table { Told (H.held host.old) (H.held host.new) (PollCall (λ _. self.new) list result) }
@@ -114,7 +122,7 @@ impl EpollEvents {
 }
 
 /// An event that a wait answered, with the token of its member.
-#[derive(Drop)]
+#[derive(Debug, Drop)]
 pub struct PollEvent<T> {
     event: EpollEvent,
     tokens: PhantomData<T>,
@@ -165,7 +173,7 @@ impl<T: PollToken> PollEvent<T> {
 }
 
 /// The events of a poll whose bits meet a mask, one after the other.
-#[derive(Drop)]
+#[derive(Debug, Drop)]
 pub struct PollEventIter<'a, T> {
     mask: u32,
     events: &'a [EpollEvent],
@@ -193,18 +201,27 @@ impl<'a, T: PollToken> Iterator for PollEventIter<'a, T> {
     }
 }
 
-/// The events that a wait answered: at most 16.
-#[derive(Drop)]
+/// The events that a wait answered: at most 16. A contract sees them.
+#[derive(Debug, Drop)]
 pub struct PollEvents<T> {
     events: EpollEvents,
     tokens: PhantomData<T>,
+}
+
+impl<T> Model for PollEvents<T> {
+    ghost use Rattle.std.specs.Prelude.{List};
+    ghost use Rattle.vub_host.specs.declared.epoll.EpollEvent.{EpollEvent};
+
+    ghost Value = { List EpollEvent };
+
+    ghost view = { λ p. p.events };
 }
 
 impl<T: PollToken> PollEvents<T> {
     /// These events.
     pub fn new(events: &[EpollEvent]) -> PollEvents<T>
         requires { length events.now ≤ 16 }
-        ensures { result.events ≡ events.now }
+        ensures { result ≡ events.now }
     {
         let mut held = [EpollEvent::from_raw(0, 0); 16];
         held[..events.len()].copy_from_slice(events);
@@ -222,7 +239,7 @@ impl<T: PollToken> PollEvents<T> {
     /// # Errors
     /// Want of memory.
     pub fn to_owned(&self, alloc: Global) -> Result<PollEventsOwned<T>, OutOfMemory>
-        ensures { IfOk result (λ owned. owned.events.items ≡ self.now.events) }
+        ensures { IfOk result (λ owned. owned.events.items ≡ self.now) }
     {
         let events = Vec::from_slice(alloc, self.events.as_slice())?;
         Ok(PollEventsOwned {
@@ -231,10 +248,10 @@ impl<T: PollToken> PollEvents<T> {
         })
     }
 
-    /// All events.
+    /// All events that have a bit.
     pub fn iter(&self) -> PollEventIter<'_, T>
         ensures mask { result.mask ≡ 0xffffffff }
-        ensures events { result.events.now ≡ self.now.events }
+        ensures events { result.events.now ≡ self.now }
     {
         PollEventIter {
             mask: 0xffff_ffff,
@@ -246,7 +263,7 @@ impl<T: PollToken> PollEvents<T> {
     /// The events with something to read.
     pub fn iter_readable(&self) -> PollEventIter<'_, T>
         ensures mask { result.mask ≡ 1 }
-        ensures events { result.events.now ≡ self.now.events }
+        ensures events { result.events.now ≡ self.now }
     {
         PollEventIter {
             mask: 1,
@@ -258,7 +275,7 @@ impl<T: PollToken> PollEvents<T> {
     /// The events that are hung up.
     pub fn iter_hungup(&self) -> PollEventIter<'_, T>
         ensures mask { result.mask ≡ 0x10 }
-        ensures events { result.events.now ≡ self.now.events }
+        ensures events { result.events.now ≡ self.now }
     {
         PollEventIter {
             mask: 0x10,
@@ -269,7 +286,7 @@ impl<T: PollToken> PollEvents<T> {
 }
 
 /// The events that a wait answered, owned.
-#[derive(Drop)]
+#[derive(Debug, Drop)]
 pub struct PollEventsOwned<T> {
     events: Vec<EpollEvent>,
     tokens: PhantomData<T>,
@@ -279,7 +296,7 @@ pub struct PollEventsOwned<T> {
 impl<T: PollToken> PollEventsOwned<T> {
     /// A copy of them that takes no memory.
     pub fn as_ref(&self) -> PollEvents<T>
-        ensures { result.events ≡ self.now.events.items }
+        ensures { result ≡ self.now.events.items }
     {
         PollEvents::new(self.events.as_slice())
     }

@@ -1,6 +1,7 @@
 use crate::{
     ControlOperation, Epoll, EpollContext, EpollEvent, EpollEvents, EventFd, EventSet, Host,
-    HostError, MemHost, PollContext, PollEvents, PollToken, WatchingEvents, timeout_millis,
+    HostError, MemHost, PollContext, PollEvents, PollToken, WatchingEvents, errno, errno_of,
+    timeout_millis,
 };
 use log::sink::Memory;
 use std::alloc::Global;
@@ -74,13 +75,109 @@ fn event_tells_what_it_reports(rt: HostRuntime) -> Result<(), Fail> {
     let events = [EpollEvent::from_raw(0x1d, 0x10)];
     let polled: PollEvents<u32> = PollEvents::new(&events);
     let owned = polled.to_owned(rt.alloc())?;
+    let mut count = 0u32;
     for event in owned.as_ref().iter() {
         assert_eq!(rt; event.token(), 0x10);
         assert_eq!(rt; event.raw_events(), 0x1d);
         assert!(rt; event.readable() && event.writable());
         assert!(rt; event.hungup() && event.has_error());
+        count = count.saturating_add(1);
+    }
+    assert_eq!(rt; count, 1);
+    Ok(())
+}
+
+#[test]
+fn lists_have_numbers(rt: HostRuntime) -> Result<(), Fail> {
+    let alloc = rt.alloc();
+    let mut host = MemHost::new(alloc);
+    assert_eq!(rt; Epoll::new(alloc, &mut host)?.list(), 0);
+    assert_eq!(rt; EpollContext::<u8>::new(alloc, &mut host)?.list(), 1);
+    assert_eq!(rt; PollContext::<u8>::new(alloc, &mut host)?.list(), 2);
+    Ok(())
+}
+
+#[test]
+fn types_are_shown(rt: HostRuntime) -> Result<(), Fail> {
+    let alloc = rt.alloc();
+    let mut host = counters(alloc, 1)?;
+    let log = Memory::new(alloc);
+    let epoll = Epoll::new(alloc, &mut host)?;
+    let context: EpollContext<u8> = EpollContext::new(alloc, &mut host)?;
+    let mut poll: PollContext<u8> = PollContext::new(alloc, &mut host)?;
+    poll.add(alloc, &mut host, 0, 7)?;
+    let polled = poll.wait(alloc, &mut host, &log)?;
+    for (shown, text) in [
+        (format!(in alloc; "{epoll:?}")?, "Epoll { list: 0 }"),
+        (
+            format!(in alloc; "{context:?}")?,
+            "EpollContext { list: 1, tokens: PhantomData<_> }",
+        ),
+        (
+            format!(in alloc; "{poll:?}")?,
+            "PollContext { context: EpollContext { list: 2, tokens: PhantomData<_> }, \
+            events: EpollEvents [{ events: 1, data: 7 }], checks: true, hangups: 0, members: 1 }",
+        ),
+        (
+            format!(in alloc; "{polled:?}")?,
+            "PollEvents { events: EpollEvents [{ events: 1, data: 7 }], tokens: PhantomData<_> }",
+        ),
+        (
+            format!(in alloc; "{:?}", polled.iter())?,
+            "PollEventIter { mask: 4294967295, events: [{ events: 1, data: 7 }], tokens: PhantomData<_> }",
+        ),
+        (
+            format!(in alloc; "{:?}", polled.to_owned(alloc)?)?,
+            "PollEventsOwned { events: [{ events: 1, data: 7 }], tokens: PhantomData<_> }",
+        ),
+        (
+            format!(in alloc; "{:?}", polled.iter().next())?,
+            "Some(PollEvent { event: { events: 1, data: 7 }, tokens: PhantomData<_> })",
+        ),
+        (
+            format!(in alloc; "{:?}", EpollEvents::new())?,
+            "EpollEvents []",
+        ),
+        (
+            format!(in alloc; "{:?}", EpollEvent::from_raw(1, 7))?,
+            "{ events: 1, data: 7 }",
+        ),
+        (
+            format!(in alloc; "{:?}", WatchingEvents::new(5))?,
+            "WatchingEvents(5)",
+        ),
+        (
+            format!(in alloc; "{:?}", ControlOperation::Delete)?,
+            "Delete",
+        ),
+    ] {
+        assert_eq!(rt; shown.as_str(), text);
     }
     Ok(())
+}
+
+#[test]
+fn refusals_have_the_numbers_of_linux(rt: HostRuntime) {
+    for (refusal, number) in [
+        (HostError::WouldBlock, Some(11)),
+        (HostError::EINVAL, Some(22)),
+        (HostError::EEXIST, Some(17)),
+        (HostError::ENOENT, Some(2)),
+        (HostError::EBADF, Some(9)),
+        (HostError::ENOBUFS, Some(105)),
+        (HostError::Failed, None),
+        (HostError::Held, None),
+        (HostError::OutOfMemory, Some(12)),
+    ] {
+        assert_eq!(rt; errno_of(refusal), number.map(errno::Error::new));
+    }
+    for (operation, number) in [
+        (ControlOperation::Add, 1),
+        (ControlOperation::Delete, 2),
+        (ControlOperation::Modify, 3),
+    ] {
+        assert_eq!(rt; operation as i32, number);
+    }
 }
 
 #[test]
