@@ -1,5 +1,5 @@
 -- An action of the guest is a turn of the guest.
-use Rattle.std.proofs.Common.{◌≡◌, ℕ, ◌+◌, ◌-◌, ◌<◌, ◌==◌, List, [], ◌∷◌, length, drop, get_or, sym, ap, ◌∙◌}
+use Rattle.std.proofs.Common.{◌≡◌, ℕ, ◌+◌, ◌-◌, ◌<◌, ◌==◌, List, [], ◌∷◌, length, drop, get_or, sym, ap, subst, ◌∙◌}
 use Rattle.std.proofs.lemmas.Bool.{cond-false, ne_eqb}
 use Rattle.std.proofs.lemmas.List.{drop_more}
 use Rattle.vub_model.specs.declared.play.Play.TheVariants as play
@@ -9,6 +9,8 @@ use Rattle.vub_model.specs.Shared.{Shared}
 use Rattle.vub_model.specs.Service.{Meaning}
 use Rattle.vub_model.specs.World.{World, acted, after_guest}
 use Rattle.vub_model.specs.RunOf.{Turn, party_of}
+use Rattle.vub_model.proofs.Shapes.{acted-shape}
+use Rattle.vub_core.proofs.Framed.{Framed}
 
 pub guest-turned : {V : Type 0} (m : Meaning V) (w : World V) (guest : List Guest) (done : ℕ) (action : Guest) (new : Shared V) → w.guest ≡ drop done guest → done < length guest → action ≡ get_or guest done action → new ≡ acted w.shared action → Turn m w party.Guest play.Guest (record w { shared = new; guest = drop (done + 1) guest })
 guest-turned m w guest done action new left within here is =
@@ -16,6 +18,10 @@ guest-turned m w guest done action new left within here is =
       (λ none. let bad : action ∷ drop (done + 1) guest ≡ [] = sym next ∙ none in absurd cc),
       ap (λ h. record w { shared = h; guest = drop (done + 1) guest }) is ∙ ap (λ gs. after_guest w gs) (sym next),
     )
+
+-- it leaves what a plan is fixed by
+pub guest-framed : {V : Type 0} (h new : Shared V) (action : Guest) → new ≡ acted h action → Framed h new
+guest-framed {V} h new action is = let F : Shared V → Type 0 = λ x. Framed h x in subst F (sym is) (record { frame = (acted-shape h action).frame; regions = (acted-shape h action).regions })
 
 -- a party with a greater number is a worker
 pub party-worker : (p : ℕ) → (p ≡ 0 → ⊥) → (p ≡ 1 → ⊥) → party_of p ≡ party.Worker (p - 2)

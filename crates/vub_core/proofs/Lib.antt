@@ -1,6 +1,9 @@
 pub mod Acting
+pub mod Beginning
+pub mod Controlled
 pub mod Counted
 pub mod Flags
+pub mod Framed
 pub mod Kept
 pub mod Longer
 pub mod Made
@@ -8,8 +11,11 @@ pub mod OneOutcome
 pub mod OpenedFor
 pub mod OpenedWorkers
 pub mod Outcomes
+pub mod Plans
+pub mod Readying
 pub mod Rests
 pub mod Runs
+pub mod Staying
 pub mod Stepping
 pub mod Turned
 pub mod Turning

@@ -6,7 +6,7 @@ use Rattle.vub_model.specs.declared.run.Run.{Run}
 use Rattle.vub_model.specs.declared.setup.Object.{Object}
 use Rattle.vub_model.specs.declared.setup.Setup.{Setup}
 use Rattle.vub_model.specs.declared.play.Play.{Play}
-use Rattle.vub_model.specs.DeviceCalls.{Telling, label_of, calls}
+use Rattle.vub_model.specs.DeviceCalls.{Call, Telling, label_of, calls}
 use Rattle.vub_model.specs.Opening.{opening}
 use Rattle.vub_model.specs.RunOf.{IsAtRest}
 use Rattle.vub_model.specs.RunRecords.{Shows}
@@ -25,21 +25,25 @@ one-answer P false true is other-is = is.1 (other-is.0 refl)
 one-answer P false false is other-is = refl
 
 -- two runs are the same whose fields are the same
-same-fields : (run other : Run) → run.labels ≡ other.labels → run.takes ≡ other.takes → run.uses ≡ other.uses → run.stops ≡ other.stops → run.counts ≡ other.counts → run.written ≡ other.written → run.rest ≡ other.rest → run ≡ other
-same-fields run other labels takes uses stops counts written rest =
+same-fields : (run other : Run) → run.labels ≡ other.labels → run.answers ≡ other.answers → run.device ≡ other.device → run.takes ≡ other.takes → run.uses ≡ other.uses → run.stops ≡ other.stops → run.counts ≡ other.counts → run.written ≡ other.written → run.rest ≡ other.rest → run ≡ other
+same-fields run other labels answers device takes uses stops counts written rest =
     ap (λ x. record run { labels = x }) labels
-    ∙ ap (λ x. record run { labels = other.labels; takes = x }) takes
-    ∙ ap (λ x. record run { labels = other.labels; takes = other.takes; uses = x }) uses
-    ∙ ap (λ x. record run { labels = other.labels; takes = other.takes; uses = other.uses; stops = x }) stops
+    ∙ ap (λ x. record run { labels = other.labels; answers = x }) answers
+    ∙ ap (λ x. record run { labels = other.labels; answers = other.answers; device = x }) device
+    ∙ ap (λ x. record other { takes = x; uses = run.uses; stops = run.stops; counts = run.counts; written = run.written; rest = run.rest }) takes
+    ∙ ap (λ x. record other { uses = x; stops = run.stops; counts = run.counts; written = run.written; rest = run.rest }) uses
+    ∙ ap (λ x. record other { stops = x; counts = run.counts; written = run.written; rest = run.rest }) stops
     ∙ ap (λ x. record other { counts = x; written = run.written; rest = run.rest }) counts
     ∙ ap (λ x. record other { written = x; rest = run.rest }) written
     ∙ ap (λ x. record other { rest = x }) rest
 
 -- what a run hands back is a function of its labels and of the world in which it ends
-one-shown : {V : Type 0} (objects : List Object) (labels : List Label) (closing : World V) (run other : Run) → Shows objects labels closing run → Shows objects labels closing other → run ≡ other
-one-shown objects labels closing run other shows other-shows =
+one-shown : {V : Type 0} (objects : List Object) (labels : List Label) (made : List Call) (closing : World V) (run other : Run) → Shows objects labels made closing run → Shows objects labels made closing other → run ≡ other
+one-shown objects labels made closing run other shows other-shows =
     same-fields run other
     (shows.labels_are ∙ sym other-shows.labels_are)
+    (shows.answers_are ∙ sym other-shows.answers_are)
+    (shows.device_is ∙ sym other-shows.device_is)
     (shows.takes_are ∙ sym other-shows.takes_are)
     (shows.uses_are ∙ sym other-shows.uses_are)
     (shows.stops_are ∙ sym other-shows.stops_are)
@@ -54,6 +58,6 @@ one-outcome {V} m t d k setup schedule v end other-end before now other-now run 
     let said = tells-from t before.value now.value d (calls m schedule played.plays w) told played.made.told in
     let other-said = tells-from t before.value other-now.value d (calls m schedule other-played.plays w) told other-played.made.told in
     let same = one-run t d m schedule played.plays other-played.plays w played.closing other-played.closing played.is_run played.least said other-played.is_run other-played.least other-said in
-    let L : List Play → Type 0 = λ ps. Shows setup.objects (map label_of ps) other-played.closing other in
-    let C : World V → Type 0 = λ w. Shows setup.objects (map label_of played.plays) w other in
-    one-shown setup.objects (map label_of played.plays) played.closing run other played.shows (subst C (sym same.1) (subst L (sym same.0) other-played.shows))
+    let L : List Play → Type 0 = λ ps. Shows setup.objects (map label_of ps) (calls m schedule ps w) other-played.closing other in
+    let C : World V → Type 0 = λ z. Shows setup.objects (map label_of played.plays) (calls m schedule played.plays w) z other in
+    one-shown setup.objects (map label_of played.plays) (calls m schedule played.plays w) played.closing run other played.shows (subst C (sym same.1) (subst L (sym same.0) other-played.shows))

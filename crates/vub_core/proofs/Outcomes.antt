@@ -15,7 +15,8 @@ use Rattle.vub_model.specs.declared.wiring.Place.{Place}
 use Rattle.vub_model.specs.Shared.{Shared}
 use Rattle.vub_model.specs.Wiring.{Wiring, place_of}
 use Rattle.vub_model.specs.Opening.{opening, before_rings, wiring_of, registered, registered_kick, placed, claimed}
-use Rattle.vub_model.specs.DeviceCalls.{Telling, label_of, calls}
+use Rattle.vub_model.specs.declared.records.DeviceCall.{DeviceCall}
+use Rattle.vub_model.specs.DeviceCalls.{Call, Telling, label_of, calls, device_call}
 use Rattle.vub_model.specs.RunOf.{IsRun, PollsLeast}
 use Rattle.vub_model.specs.RunRecords.{Shows}
 use Rattle.vub_model.specs.Service.{Meaning}
@@ -55,16 +56,18 @@ run-length m (turn ∷ turns) (l ∷ plays) w z run = (let rest = run-length m t
 
 module _ {V D : Type 0} (m : Meaning V) (t : Telling D) (k : Constants) (setup : Setup) (v : V) (schedule : List ℕ) (d e : DeviceState D) where
   -- the headline
-  pub all-played : (labels : List Label) (closing : World V) (end : V) (run : Run) → IsValid k setup → length schedule < limit → HasPlayed m t schedule labels (opening k setup v) closing d e → end ≡ closing.shared.service → Shows setup.objects labels closing run → IsPlayed m t k setup schedule v end d e run
-  all-played labels closing end run valid short so value shows =
-      let S : List Label → Type 0 = λ ls. Shows setup.objects ls closing run in
+  pub all-played : (labels : List Label) (recorded : List DeviceCall) (closing : World V) (end : V) (run : Run) → IsValid k setup → length schedule < limit → HasPlayed m t schedule labels recorded (opening k setup v) closing d e → end ≡ closing.shared.service
+      → ((made : List Call) → recorded ≡ map device_call made → Shows setup.objects labels made closing run) → IsPlayed m t k setup schedule v end d e run
+  all-played labels recorded closing end run valid short so value shows =
+      let made = calls m schedule so.plays (opening k setup v) in
+      let S : List Label → Type 0 = λ ls. Shows setup.objects ls made closing run in
       record {
         valid = valid;
         plays = so.plays;
         closing = closing;
         is_run = so.is_run;
         least = so.least;
-        shows = subst S so.labels_are shows;
+        shows = subst S so.labels_are (shows made so.recorded_are);
         value = value;
         made = so.made;
         faithful = headline-of-setup m k setup v schedule so.plays closing short valid so.is_run;
@@ -99,8 +102,8 @@ module _ {V D : Type 0} (m : Meaning V) (t : Telling D) (k : Constants) (setup :
       })
 
   -- want of memory behind the last turn
-  pub end-played : (labels : List Label) (closing : World V) (end : V) (done : ℕ) → IsValid k setup → done ≡ length labels → HasPlayed m t schedule labels (opening k setup v) closing d e → end ≡ closing.shared.service → IsCutShort m t k setup schedule v end d e done
-  end-played labels closing end done valid is so value =
+  pub end-played : (labels : List Label) (recorded : List DeviceCall) (closing : World V) (end : V) (done : ℕ) → IsValid k setup → done ≡ length labels → HasPlayed m t schedule labels recorded (opening k setup v) closing d e → end ≡ closing.shared.service → IsCutShort m t k setup schedule v end d e done
+  end-played labels recorded closing end done valid is so value =
       let long = run-length m schedule so.plays (opening k setup v) closing so.is_run in
       let count : length labels ≡ length so.plays = ap (λ ls. length ls) so.labels_are ∙ length-map so.plays (λ p. label_of p) in
       let whole : take done schedule ≡ schedule = take_all done schedule (omega arith) in

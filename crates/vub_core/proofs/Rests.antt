@@ -1,4 +1,4 @@
--- A world is at rest exactly where the guest's list is done and each worker rests.
+-- A world is at rest exactly where the guest's list is done, control stands still and each worker rests.
 use Rattle.std.proofs.Common.{◌≡◌, ◌≢◌, ◌↔◌, ℕ, zero, suc, ◌+◌, ◌<◌, ◌≤◌, ◌&&◌, ◌||◌, ◌==◌, not, inl, inr, Bool, true, false, List, [], ◌∷◌, length, map, get_or, drop, IsTrue, length-drop, refl, sym, ap, subst, ◌∙◌, arith}
 use Rattle.std.specs.List.{list_all, list_any}
 use Rattle.std.proofs.lemmas.Bool.{cases_Bool, cases_lt, and_parts, not-true, eq-eqb}
@@ -13,13 +13,17 @@ use Rattle.vub_model.specs.declared.phase.Phase.{Phase}
 use Rattle.vub_model.specs.declared.phase.Phase.TheVariants.{Idle, Polled, Sweep, Heard, Serving, Taken, Served, Stopped}
 use Rattle.vub_model.specs.declared.setup.Guest.{Guest}
 use Rattle.vub_model.specs.declared.small.Small.{Small}
+use Rattle.vub_model.specs.declared.small.Small.TheVariants.{Set, Info}
 use Rattle.vub_proto.specs.declared.device_said.DeviceSaid.TheVariants as outcome
-use Rattle.vub_model.specs.Control.{MayControl}
+use Rattle.vub_model.specs.Control.{StandsStill, waits_now}
 use Rattle.vub_model.specs.Shared.{Shared}
 use Rattle.vub_model.specs.Wiring.{Wiring, opened_at}
 use Rattle.vub_model.specs.Work.{MayWork}
 use Rattle.vub_model.specs.World.{World, May, phase_at}
 use Rattle.vub_model.specs.RunOf.{IsAtRest}
+use Rattle.vub_model.proofs.Drive.{control-stands}
+use Rattle.vub_vring.specs.declared.store.Store.{Store}
+use Rattle.vub_vring.specs.Store.{shared_of}
 use Rattle.vub_loop.specs.Worker.{Worker}
 use Rattle.vub_loop.specs.Handler.{IsHandler, phase_of}
 use Rattle.vub_core.specs.Rest.{is_some_list, has_report, rests_in}
@@ -65,11 +69,10 @@ module _ {V : Type 0} (g : Wiring) (k : ℕ) (h : Shared V) where
   worker-works (Served e reply queues) works = (play.Put, tt)
   worker-works (Stopped cause) works = (let bad : true ≡ false = works in absurd cc)
 
--- control with no step left
+-- control that has no step left, or whose next step waits
 
-no-control : {V : Type 0} (w : World V) → w.control.plan.steps ≡ [] → (l : Play) → May w party.Control l → ⊥
-no-control w none (play.Control s said) may = (let gone : MayControl w.shared [] s said = rw none at may in gone)
-no-control w none l may = may
+no-control : {V : Type 0} (w : World V) → StandsStill w.shared w.control.plan.steps → (l : Play) → May w party.Control l → ⊥
+no-control w still = (control-stands w).1 still
 
 -- all workers
 
@@ -110,7 +113,7 @@ module _ {V : Type 0} (w : World V) (workers : List Worker) (are : AreHandlers w
         | inr past ↦ (let gone : MayWork w.wiring k w.shared (Stopped Exit) l = rw (phase-past k past) at may in absurd gone)
       ]
 
-  all-rest : (d : Worker) → w.guest ≡ [] → w.control.plan.steps ≡ [] → list_all (λ h. Resting h) workers ≡ true → IsAtRest w
+  all-rest : (d : Worker) → w.guest ≡ [] → StandsStill w.shared w.control.plan.steps → list_all (λ h. Resting h) workers ≡ true → IsAtRest w
   all-rest d done none all party.Guest play.Guest may = may done
   all-rest d done none all party.Guest l may = may
   all-rest d done none all party.Control l may = no-control w none l may
@@ -122,14 +125,14 @@ module _ {V : Type 0} (w : World V) (workers : List Worker) (are : AreHandlers w
       let step = worker-works w.wiring one.0 w.shared (phase_at w.phases one.0) (rest-there one.0 d one.1 ∙ one.2) in
       rest (party.Worker one.0) step.0 step.1
 
-no-worker : {V : Type 0} (w : World V) → AreHandlers w.wiring 0 [] → w.phases ≡ map (λ h. phase_of h) [] → w.guest ≡ [] → w.control.plan.steps ≡ [] → IsAtRest w
+no-worker : {V : Type 0} (w : World V) → AreHandlers w.wiring 0 [] → w.phases ≡ map (λ h. phase_of h) [] → w.guest ≡ [] → StandsStill w.shared w.control.plan.steps → IsAtRest w
 no-worker w are phases done none party.Guest play.Guest may = may done
 no-worker w are phases done none party.Guest l may = may
 no-worker w are phases done none party.Control l may = no-control w none l may
 no-worker w are phases done none (party.Worker k) l may = (let gone : MayWork w.wiring k w.shared (Stopped Exit) l = rw (phase-past w [] are phases k (omega arith)) at may in absurd gone)
 
 -- the world is at rest exactly where the guest's list is done and each worker rests
-pub world-rests : {V : Type 0} (w : World V) (workers : List Worker) → AreHandlers w.wiring 0 workers → w.phases ≡ map (λ h. phase_of h) workers → w.guest ≡ [] → w.control.plan.steps ≡ [] → list_all (λ (h : Worker). rests_in w.shared.table h.opened.list (phase_of h)) workers ≡ true → IsAtRest w
+pub world-rests : {V : Type 0} (w : World V) (workers : List Worker) → AreHandlers w.wiring 0 workers → w.phases ≡ map (λ h. phase_of h) workers → w.guest ≡ [] → StandsStill w.shared w.control.plan.steps → list_all (λ (h : Worker). rests_in w.shared.table h.opened.list (phase_of h)) workers ≡ true → IsAtRest w
 world-rests w [] are phases done none all = no-worker w are phases done none
 world-rests w (h ∷ hs) are phases done none all = all-rest w (h ∷ hs) are phases h done none all
 
@@ -141,7 +144,7 @@ pub guest-goes : {V : Type 0} (w : World V) → w.guest ≢ [] → IsAtRest w �
 guest-goes w left rest = rest party.Guest play.Guest left
 
 -- where the guest's list is done, the answer of the workers is the world's
-pub rests-both : {V : Type 0} (w : World V) (workers : List Worker) (b : Bool) → AreHandlers w.wiring 0 workers → w.phases ≡ map (λ h. phase_of h) workers → w.guest ≡ [] → w.control.plan.steps ≡ [] → b ≡ list_all (λ (h : Worker). rests_in w.shared.table h.opened.list (phase_of h)) workers → IsTrue b ↔ IsAtRest w
+pub rests-both : {V : Type 0} (w : World V) (workers : List Worker) (b : Bool) → AreHandlers w.wiring 0 workers → w.phases ≡ map (λ h. phase_of h) workers → w.guest ≡ [] → StandsStill w.shared w.control.plan.steps → b ≡ list_all (λ (h : Worker). rests_in w.shared.table h.opened.list (phase_of h)) workers → IsTrue b ↔ IsAtRest w
 rests-both w workers true are phases done none is = ((λ yes-is. world-rests w workers are phases done none (sym is)), (λ rest. refl))
 rests-both w workers false are phases done none is = ((λ bad. let no-way : false ≡ true = bad in absurd cc), (λ rest. absurd (worker-goes w workers are phases (sym is) rest)))
 
@@ -149,6 +152,21 @@ rests-both w workers false are phases done none is = ((λ bad. let no-way : fals
 pub rests-none : {V : Type 0} (w : World V) (b : Bool) → b ≡ false → w.guest ≢ [] → IsTrue b ↔ IsAtRest w
 rests-none w true is left = (let no-way : true ≡ false = is in absurd cc)
 rests-none w false is left = ((λ bad. let no-way : false ≡ true = bad in absurd cc), (λ rest. absurd (guest-goes w left rest)))
+
+-- where control has a step, there is no rest
+pub rests-other : {V : Type 0} (w : World V) (b : Bool) → b ≡ false → (StandsStill w.shared w.control.plan.steps → ⊥) → IsTrue b ↔ IsAtRest w
+rests-other w true is goes = (let no-way : true ≡ false = is in absurd cc)
+rests-other w false is goes = ((λ bad. let no-way : false ≡ true = bad in absurd cc), (λ rest. absurd (goes ((control-stands w).0 (rest party.Control)))))
+
+-- whether a step waits is the same for every service
+waits-any : {V : Type 0} (s : Store (Unit {0})) (v : V) (small : Small) → waits_now (shared_of s v) small ≡ waits_now (shared_of s (tt {0})) small
+waits-any s v (Set queue o) = refl
+waits-any s v (Info queue desc avail used) = refl
+waits-any s v small = refl
+
+pub still-for : {V : Type 0} (s : Store (Unit {0})) (v : V) (steps : List Small) → StandsStill (shared_of s (tt {0})) steps ↔ StandsStill (shared_of s v) steps
+still-for s v [] = ((λ still. tt), (λ still. tt))
+still-for s v (small ∷ rest) = ((λ still. waits-any s v small ∙ still), (λ still. sym (waits-any s v small) ∙ still))
 
 pub guest-done : (guest : List Guest) (acted : ℕ) → length guest ≤ acted → drop acted guest ≡ []
 guest-done guest acted past = drop_all acted guest past

@@ -8,6 +8,6 @@ use Rattle.vub_loop.specs.Handler.{phase_of}
 use Rattle.vub_core.specs.declared.machine.Machine.{Machine}
 use Rattle.vub_core.specs.Machine.{opened_world}
 
-pub worker-count : (k : Constants) (s : Setup) (m : Machine) → opened_world k s m ≡ opening k s (tt {0}) → length m.workers.items ≡ length k.masks
+pub worker-count : (k : Constants) (s : Setup) (m : Machine) → opened_world s m ≡ opening k s (tt {0}) → length m.workers.items ≡ length k.masks
 unfolding opening
 worker-count k s m is = sym (length-map m.workers.items (λ h. phase_of h)) ∙ ap (λ x. length x.phases) is ∙ length-map k.masks _

@@ -27,7 +27,8 @@ pub record IsPlayed {V D : Type 0} (m : Meaning V) (t : Telling D) (constants : 
   pub closing : World V
   pub is_run : IsRun m schedule plays (opening constants setup v) closing
   pub least : PollsLeast m schedule plays (opening constants setup v)
-  pub shows : Shows setup.objects (map label_of plays) closing run
+  pub shows :
+      Shows setup.objects (map label_of plays) (calls m schedule plays (opening constants setup v)) closing run
   pub value : end ≡ closing.shared.service
   pub made : HasMade t before now (calls m schedule plays (opening constants setup v))
   pub faithful : IsFaithful m constants setup v schedule plays closing

@@ -1,13 +1,12 @@
-ghost use Rattle.std.specs.Prelude.{◌≡◌, ◌<◌, ◌+◌, ◌^◌, length, IfOk, IfErr};
-ghost use Rattle.vub_model.specs.Opening.{opening, opening_control, wiring_of};
+ghost use Rattle.std.specs.Prelude.{◌≡◌, ◌<◌, ◌+◌, ◌^◌, [], length, IfOk, IfErr};
+ghost use Rattle.vub_model.specs.Opening.{opening};
 ghost use Rattle.vub_model.specs.ValidSetup.{IsValid};
 ghost use Rattle.vub_open.specs.Asked.{constants_by};
-ghost use Rattle.vub_open.specs.Hosts.{NeverFails};
 ghost use Rattle.vub_core.specs.DeviceRun.{state_by, telling_by};
-ghost use Rattle.vub_core.specs.Machine.{world_of, opened_world};
+ghost use Rattle.vub_core.specs.Machine.{opened_world};
 ghost use Rattle.vub_core.specs.Meanings.{meaning_by};
 ghost use Rattle.vub_core.specs.Outcome.{IsPlayed, IsRefused};
-ghost use Rattle.vub_core.specs.Workers.{AreHandlers};
+ghost use Rattle.vub_core.specs.Whole.{IsWhole};
 
 use crate::finish::finish;
 use crate::machine::Machine;
@@ -31,9 +30,9 @@ fn play_opened<D: VhostUserBackendMut, V: Service>(
     constants: &Constants,
     schedule: &[u32],
 ) -> Result<Run, DriveFault>
-    requires opened { opened_world constants.now setup.now machine ≡ opening constants.now setup.now (tt {0}) }
-    requires workers { AreHandlers (wiring_of constants.now (length setup.now.objects)) 0 machine.workers.items }
-    requires sound { NeverFails machine.store.host }
+    requires opened { opened_world setup.now machine ≡ opening constants.now setup.now (tt {0}) }
+    requires whole { IsWhole machine }
+    requires calls { machine.calls.items ≡ [] }
     requires valid { IsValid constants.now setup.now }
     requires numbers { length setup.now.objects + length constants.now.masks < 2 ^ 32 }
     ensures played { IfOk result (IsPlayed (meaning_by V.Service) (telling_by D.VhostUserBackendMut)
@@ -47,7 +46,6 @@ fn play_opened<D: VhostUserBackendMut, V: Service>(
         return Err(NO_MEMORY);
     }
     let mut machine = machine;
-    let guest = setup.guest.as_slice();
     let mut labels = Vec::new(alloc);
     match play(
         alloc,
@@ -55,7 +53,7 @@ fn play_opened<D: VhostUserBackendMut, V: Service>(
         device,
         service,
         constants,
-        guest,
+        setup,
         schedule,
         &mut labels,
     ) {
@@ -64,14 +62,7 @@ fn play_opened<D: VhostUserBackendMut, V: Service>(
         }),
         Ok(()) => {
             let done = labels.len() as u64;
-            match finish(
-                alloc,
-                machine,
-                &*service,
-                setup.objects.as_slice(),
-                guest,
-                labels,
-            ) {
+            match finish(alloc, machine, &*service, setup, labels) {
                 Ok(run) => Ok(run),
                 Err(_) => Err(DriveFault::OutOfMemory { done }),
             }
@@ -81,7 +72,8 @@ fn play_opened<D: VhostUserBackendMut, V: Service>(
 
 /// Opens a set-up and plays a schedule, one step a turn: party 0 is the guest, party 1 is control, and party 2 + w is
 /// worker w. A turn of a party that has no step, or is not there, is `Pass`. Each poll takes the ready object with the
-/// least number. The device is asked for its constants, and then to handle each event that a listener reported.
+/// least number. Control begins each request where the one before is answered. The device is asked for its constants, and
+/// then what control's steps ask, and to handle each event that a listener reported.
 ///
 /// The run is one of the machine of party turns, from the opening of the set-up. Each queue took its entries once and in
 /// order, numbered from its base, and used each with the service's reply to the bytes read at taking, but for at most one

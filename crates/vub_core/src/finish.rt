@@ -1,9 +1,11 @@
-ghost use Rattle.std.specs.Prelude.{◌≡◌, ◌<◌, ◌^◌, length, IfOk};
+ghost use Rattle.std.specs.Prelude.{◌≡◌, ◌<◌, ◌^◌, List, length, map, IfOk};
+ghost use Rattle.vub_model.specs.DeviceCalls.{Call, device_call};
 ghost use Rattle.vub_model.specs.RunRecords.{Shows};
-ghost use Rattle.vub_open.specs.Hosts.{NeverFails};
-ghost use Rattle.vub_core.specs.ForWiring.{ForWiring};
 ghost use Rattle.vub_core.specs.Machine.{world_of};
+ghost use Rattle.vub_core.specs.Ready.{RequestsName};
+ghost use Rattle.vub_core.specs.Whole.{IsWhole};
 
+use crate::control::begin_next;
 use crate::counting::{counts_of, stops_of};
 use crate::machine::Machine;
 use crate::records::Records;
@@ -11,7 +13,7 @@ use crate::rest::at_rest;
 use crate::spans::spans_of;
 use std::alloc::Global;
 use vub_base::{Listed, OutOfMemory};
-use vub_model::{Guest, Label, Object, Run};
+use vub_model::{Label, Run, Setup};
 use vub_proto::Service;
 
 /// What happened, with these labels.
@@ -19,18 +21,20 @@ pub(crate) fn finish<V: Service>(
     alloc: Global,
     machine: Machine,
     service: &V,
-    objects: &[Object],
-    guest: &[Guest],
+    setup: &Setup,
     labels: Vec<Label>,
 ) -> Result<Run, OutOfMemory>
-    requires sound { NeverFails machine.store.host }
-    requires objects { length objects.now < 2 ^ 32 }
+    requires whole { IsWhole machine }
+    requires names { RequestsName setup.now machine }
+    requires objects { length setup.now.objects < 2 ^ 32 }
     requires workers { length machine.workers.items < 2 ^ 32 }
-    ensures { ForWiring machine (λ g control. IfOk result
-        (Shows objects.now labels.items (world_of g control guest.now machine service.now))) }
+    ensures { (made : List Call) → machine.calls.items ≡ map device_call made → IfOk result
+        (Shows setup.now.objects labels.items made (world_of setup.now machine service.now)) }
 {
     let mut machine = machine;
-    let rest = at_rest(&mut machine, service, guest);
+    let objects = setup.objects.as_slice();
+    begin_next(alloc, &mut machine, setup)?;
+    let rest = at_rest(&mut machine, service, setup);
     let stops = stops_of(alloc, &machine.workers)?;
     let counts = counts_of(alloc, &machine.store.host, objects)?;
     let written = spans_of(
@@ -40,18 +44,16 @@ pub(crate) fn finish<V: Service>(
         objects,
     )?;
     let Machine {
-        store: _,
-        workers: _,
-        acted: _,
+        answers,
+        calls,
         records,
+        ..
     } = machine;
-    let Records {
-        takes,
-        uses,
-        written: _,
-    } = records;
+    let Records { takes, uses, .. } = records;
     Ok(Run {
         labels: Listed::from_vec(labels),
+        answers: Listed::from_vec(answers),
+        device: Listed::from_vec(calls),
         takes: Listed::from_vec(takes),
         uses: Listed::from_vec(uses),
         stops: Listed::from_vec(stops),

@@ -1,17 +1,18 @@
 //! The machine that a valid set-up opens.
-ghost use Rattle.std.specs.Prelude.{◌≡◌, ◌+◌, ◌<◌, ◌^◌, None, length, map, IfOk, IfErr, OnOk};
+ghost use Rattle.std.specs.Prelude.{◌≡◌, ◌+◌, ◌<◌, ◌^◌, None, [], length, map, IfOk, IfErr, OnOk};
 ghost use Rattle.std.specs.List.{range_with_len};
 ghost use Rattle.vub_model.specs.declared.phase.Phase.TheVariants.{Idle};
 ghost use Rattle.vub_model.specs.Opening.{opening, opened_worker, wiring_of};
 ghost use Rattle.vub_model.specs.ValidSetup.{fault_of, contents_from, given_region};
 ghost use Rattle.vub_loop.specs.Handler.{phase_of, new_handler};
 ghost use Rattle.vub_core.specs.Machine.{opened_world};
-ghost use Rattle.vub_open.specs.Hosts.{NeverFails};
 ghost use Rattle.vub_open.specs.Refused.{IsRefusal};
+ghost use Rattle.vub_core.specs.Whole.{IsWhole};
 ghost use Rattle.vub_core.specs.Workers.{AreHandlers};
 
 use crate::machine::Machine;
 use crate::records::Records;
+use crate::session::{open_half, open_session};
 use std::alloc::Global;
 use vub_base::OutOfMemory;
 use vub_loop::VringEpollHandler;
@@ -54,17 +55,22 @@ fn open_machine(
     requires valid { fault_of constants.now setup.now ≡ None }
     requires guest { memory.guest
         ≡ record { regions = map given_region setup.now.regions; contents = contents_from 0 setup.now.objects } }
-    ensures world { IfOk result (λ m. opened_world constants.now setup.now m
-        ≡ opening constants.now setup.now (tt {0})) }
-    ensures workers { IfOk result (λ m. AreHandlers (wiring_of constants.now
-        (length setup.now.objects)) 0 m.workers.items) }
-    ensures sound { IfOk result (λ m. NeverFails m.store.host) }
+    ensures world { IfOk result (λ m. opened_world setup.now m ≡ opening constants.now setup.now (tt {0})) }
+    ensures whole { IfOk result IsWhole }
+    ensures calls { IfOk result (λ m. m.calls.items ≡ []) }
 {
     let store = open_store(alloc, setup, constants, memory)?;
     let workers = open_handlers(alloc, constants, setup.objects.len() as u32)?;
+    let handler = open_session(alloc, setup, constants, store.rings.as_slice())?;
+    let half = open_half(alloc, setup)?;
     let records = Records::new(alloc, setup.objects.as_slice())?;
     Ok(Machine {
         store,
+        handler,
+        half,
+        asked: 0,
+        answers: Vec::new(alloc),
+        calls: Vec::new(alloc),
         workers,
         acted: 0,
         records,
@@ -82,11 +88,9 @@ pub(crate) fn open(
 ) -> Result<Machine, DriveFault>
     ensures refused { IfErr result (λ f. IsRefusal (fault_of constants.now setup.now) f) }
     ensures valid { OnOk result (fault_of constants.now setup.now ≡ None) }
-    ensures world { IfOk result (λ m. opened_world constants.now setup.now m
-        ≡ opening constants.now setup.now (tt {0})) }
-    ensures workers { IfOk result (λ m. AreHandlers (wiring_of constants.now
-        (length setup.now.objects)) 0 m.workers.items) }
-    ensures sound { IfOk result (λ m. NeverFails m.store.host) }
+    ensures world { IfOk result (λ m. opened_world setup.now m ≡ opening constants.now setup.now (tt {0})) }
+    ensures whole { IfOk result IsWhole }
+    ensures calls { IfOk result (λ m. m.calls.items ≡ []) }
     ensures numbers { OnOk result (length setup.now.objects + length constants.now.masks < 2 ^ 32) }
 {
     let memory = validate(alloc, setup, constants)?;

@@ -1,20 +1,24 @@
 //! A schedule, one turn after the other.
-ghost use Rattle.std.specs.Prelude.{◌≡◌, [], length, IfOk, OnOk, OnErr};
-ghost use Rattle.vub_model.specs.DeviceCalls.{label_of, call_at};
-ghost use Rattle.vub_model.specs.RunOf.{Turn, IsLeast, party_of};
-ghost use Rattle.vub_open.specs.Hosts.{NeverFails};
+ghost use Rattle.std.specs.Prelude.{◌≡◌, ◌<◌, [], length, IfOk, OnOk, OnErr};
+ghost use Rattle.vub_model.specs.DeviceCalls.{label_of};
+ghost use Rattle.vub_model.specs.Opening.{opening};
+ghost use Rattle.vub_model.specs.RingRecord.{limit};
+ghost use Rattle.vub_model.specs.RunOf.{party_of};
+ghost use Rattle.vub_model.specs.ValidSetup.{IsValid};
 ghost use Rattle.vub_core.specs.DeviceRun.{state_by, telling_by, HasMade};
-ghost use Rattle.vub_core.specs.ForWiring.{ForWiring};
 ghost use Rattle.vub_core.specs.Machine.{world_of};
 ghost use Rattle.vub_core.specs.Meanings.{meaning_by};
 ghost use Rattle.vub_core.specs.Played.{HasPlayed, WasCutShort};
-ghost use Rattle.vub_core.specs.Workers.{AreHandlers};
+ghost use Rattle.vub_core.specs.Ready.{IsReady, RequestsName};
+ghost use Rattle.vub_core.specs.Turned.{HasTurned};
+ghost use Rattle.vub_core.specs.Whole.{IsWhole};
 
+use crate::control::control_turn;
 use crate::machine::Machine;
 use crate::turns::{guest_turn, worker_turn};
 use std::alloc::Global;
 use vub_base::OutOfMemory;
-use vub_model::{Constants, Guest, Label, Play};
+use vub_model::{Constants, Label, Play, Setup};
 use vub_proto::{Service, VhostUserBackendMut};
 
 /// The label of a play.
@@ -35,8 +39,7 @@ fn label_of(play: Play) -> Label
     }
 }
 
-/// One turn: party 0 is the guest, party 1 is control, which has no step, since no request is left, and party 2 + w is
-/// worker w.
+/// One turn: party 0 is the guest, party 1 is control, and party 2 + w is worker w.
 ///
 /// # Errors
 /// Want of memory leaves service and device as they were.
@@ -46,33 +49,34 @@ fn turn<D: VhostUserBackendMut, V: Service>(
     device: &mut D,
     service: &mut V,
     constants: &Constants,
-    guest: &[Guest],
+    setup: &Setup,
     party: u32,
-) -> Result<Play, OutOfMemory>
-    requires { NeverFails machine.old.store.host }
-    ensures turn { ForWiring machine.old (λ g control. IfOk result (λ l. Turn (meaning_by V.Service)
-        (world_of g control guest.now machine.old service.old) (party_of party) l
-        (world_of g control guest.now machine.new service.new))) }
-    ensures least { ForWiring machine.old (λ g control. IfOk result (λ l.
-        IsLeast (world_of g control guest.now machine.old service.old) (party_of party) l)) }
-    ensures made { ForWiring machine.old (λ g control. IfOk result (λ l. HasMade (telling_by D.VhostUserBackendMut)
-        (state_by D.VhostUserBackendMut device.old) (state_by D.VhostUserBackendMut device.new)
-        (call_at (world_of g control guest.now machine.old service.old) (party_of party) l))) }
-    ensures workers { ForWiring machine.old (λ g control. AreHandlers g 0 machine.new.workers.items) }
-    ensures count { length machine.new.workers.items ≡ length machine.old.workers.items }
-    ensures sound { NeverFails machine.new.store.host }
-    ensures service { ForWiring machine.old (λ g control. OnErr result (service.new ≡ service.old)) }
-    ensures device { ForWiring machine.old (λ g control. OnErr result (HasMade (telling_by D.VhostUserBackendMut)
-        (state_by D.VhostUserBackendMut device.old) (state_by D.VhostUserBackendMut device.new) [])) }
+) -> Result<Label, OutOfMemory>
+    requires whole { IsWhole machine.old }
+    requires ready { IsReady setup.now machine.old }
+    ensures turned { IfOk result (λ label. HasTurned (meaning_by V.Service) (telling_by D.VhostUserBackendMut)
+        (party_of party) label
+        (world_of setup.now machine.old service.old) (world_of setup.now machine.new service.new)
+        machine.old.calls.items machine.new.calls.items
+        (state_by D.VhostUserBackendMut device.old) (state_by D.VhostUserBackendMut device.new)) }
+    ensures whole { OnOk result (IsWhole machine.new) }
+    ensures count { OnOk result (length machine.new.workers.items ≡ length machine.old.workers.items) }
+    ensures service { OnErr result (service.new ≡ service.old) }
+    ensures device { OnErr result (HasMade (telling_by D.VhostUserBackendMut)
+        (state_by D.VhostUserBackendMut device.old) (state_by D.VhostUserBackendMut device.new) []) }
 {
     match party {
-        0 => Ok(guest_turn(machine, &*service, guest)),
-        1 => Ok(Play::Pass),
-        _ => worker_turn(alloc, machine, device, service, constants, party - 2),
+        0 => Ok(label_of(guest_turn(machine, &*service, setup))),
+        1 => control_turn(alloc, machine, device, service, constants, setup),
+        _ => {
+            let worker = party - 2;
+            let play = worker_turn(alloc, machine, device, service, constants, setup, worker)?;
+            Ok(label_of(play))
+        }
     }
 }
 
-/// Plays a schedule, and appends the label of each turn.
+/// Plays a schedule on a machine that was opened, and appends the label of each turn.
 ///
 /// # Errors
 /// Want of memory: the turns whose labels are there are finished, and service and device are as they left them. The
@@ -83,28 +87,31 @@ pub(crate) fn play<D: VhostUserBackendMut, V: Service>(
     device: &mut D,
     service: &mut V,
     constants: &Constants,
-    guest: &[Guest],
+    setup: &Setup,
     schedule: &[u32],
     labels: &mut Vec<Label>,
 ) -> Result<(), OutOfMemory>
-    requires sound { NeverFails machine.old.store.host }
+    requires whole { IsWhole machine.old }
+    requires opened { world_of setup.now machine.old service.old ≡ opening constants.now setup.now service.old }
+    requires valid { IsValid constants.now setup.now }
+    requires short { length schedule.now < limit }
     requires none { labels.old.items ≡ [] }
-    ensures played { ForWiring machine.old (λ g control. OnOk result
-        (HasPlayed (meaning_by V.Service) (telling_by D.VhostUserBackendMut) schedule.now labels.new.items
-        (world_of g control guest.now machine.old service.old) (world_of g control guest.now machine.new service.new)
-        (state_by D.VhostUserBackendMut device.old) (state_by D.VhostUserBackendMut device.new))) }
-    ensures cut { ForWiring machine.old (λ g control. OnErr result
-        (WasCutShort (meaning_by V.Service) (telling_by D.VhostUserBackendMut) schedule.now labels.new.items
-        (world_of g control guest.now machine.old service.old) service.new
-        (state_by D.VhostUserBackendMut device.old) (state_by D.VhostUserBackendMut device.new))) }
-    ensures workers { ForWiring machine.old (λ g control. AreHandlers g 0 machine.new.workers.items) }
-    ensures count { length machine.new.workers.items ≡ length machine.old.workers.items }
-    ensures sound { NeverFails machine.new.store.host }
+    requires calls { machine.old.calls.items ≡ [] }
+    ensures played { OnOk result (HasPlayed (meaning_by V.Service) (telling_by D.VhostUserBackendMut)
+        schedule.now labels.new.items machine.new.calls.items
+        (world_of setup.now machine.old service.old) (world_of setup.now machine.new service.new)
+        (state_by D.VhostUserBackendMut device.old) (state_by D.VhostUserBackendMut device.new)) }
+    ensures cut { OnErr result (WasCutShort (meaning_by V.Service) (telling_by D.VhostUserBackendMut)
+        schedule.now labels.new.items (world_of setup.now machine.old service.old) service.new
+        (state_by D.VhostUserBackendMut device.old) (state_by D.VhostUserBackendMut device.new)) }
+    ensures whole { OnOk result (IsWhole machine.new) }
+    ensures names { OnOk result (RequestsName setup.now machine.new) }
+    ensures count { OnOk result (length machine.new.workers.items ≡ length machine.old.workers.items) }
 {
     for party in schedule {
         labels.reserve(1)?;
-        let play = turn(alloc, machine, device, service, constants, guest, *party)?;
-        labels.push(label_of(play)).unwrap();
+        let label = turn(alloc, machine, device, service, constants, setup, *party)?;
+        labels.push(label).unwrap();
     }
     Ok(())
 }

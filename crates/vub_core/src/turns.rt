@@ -1,41 +1,38 @@
-//! One turn of each party.
-ghost use Rattle.std.specs.Prelude.{◌≡◌, List, [], length, IfOk, OnErr};
-ghost use Rattle.vub_model.specs.declared.setup.Guest.{Guest};
+//! One turn of the guest, and of a worker.
+ghost use Rattle.std.specs.Prelude.{◌≡◌, ◌++◌, [], length, map, IfOk, OnOk, OnErr};
 ghost use Rattle.vub_model.specs.declared.party.Party.{Party};
-ghost use Rattle.vub_model.specs.Control.{Control};
-ghost use Rattle.vub_model.specs.DeviceCalls.{heard_in, call_at};
+ghost use Rattle.vub_model.specs.DeviceCalls.{heard_in, call_at, device_call};
 ghost use Rattle.vub_model.specs.RunOf.{Turn, IsLeast, IsLeastPoll};
-ghost use Rattle.vub_model.specs.Wiring.{Wiring};
 ghost use Rattle.vub_vring.specs.Store.{shared_of};
 ghost use Rattle.vub_loop.specs.Finished.{finished_by};
-ghost use Rattle.vub_loop.specs.Handler.{IsHandler, SameWorker, phase_of};
+ghost use Rattle.vub_loop.specs.Handler.{SameWorker, phase_of};
 ghost use Rattle.vub_open.specs.Hosts.{NeverFails};
 ghost use Rattle.vub_core.specs.DeviceRun.{state_by, telling_by, HasMade};
-ghost use Rattle.vub_core.specs.ForWiring.{ForWiring};
 ghost use Rattle.vub_core.specs.Machine.{world_of};
 ghost use Rattle.vub_core.specs.Meanings.{meaning_by};
 ghost use Rattle.vub_core.specs.Stepped.{play_of, IsTurn, ForHandler};
-ghost use Rattle.vub_core.specs.Workers.{AreHandlers};
+ghost use Rattle.vub_core.specs.Whole.{IsWhole};
 
+use crate::calls::{heard_call, push_into, token_in};
 use crate::footprint::next_footprint;
 use crate::machine::Machine;
 use std::alloc::Global;
 use vub_base::OutOfMemory;
 use vub_loop::{Turned, VringEpollHandler};
-use vub_model::{Constants, Guest, Party, Play};
+use vub_model::{Constants, Play, Setup};
 use vub_proto::{Service, VhostUserBackendMut};
 use vub_vring::{OwnedParts, Store};
 
 /// The guest does the next action of its list.
-pub(crate) fn guest_turn<V: Service>(machine: &mut Machine, service: &V, guest: &[Guest]) -> Play
-    requires { NeverFails machine.old.store.host }
-    ensures turn { (g : Wiring) (control : Control) → Turn (meaning_by V.Service)
-        (world_of g control guest.now machine.old service.now) Party.Guest result
-        (world_of g control guest.now machine.new service.now) }
+pub(crate) fn guest_turn<V: Service>(machine: &mut Machine, service: &V, setup: &Setup) -> Play
+    requires { IsWhole machine.old }
+    ensures turn { Turn (meaning_by V.Service) (world_of setup.now machine.old service.now) Party.Guest result
+        (world_of setup.now machine.new service.now) }
+    ensures whole { IsWhole machine.new }
     ensures workers { machine.new.workers ≡ machine.old.workers }
-    ensures sound { NeverFails machine.new.store.host }
+    ensures calls { machine.new.calls ≡ machine.old.calls }
 {
-    match guest.get(machine.acted) {
+    match setup.guest.as_slice().get(machine.acted) {
         None => Play::Pass,
         Some(action) => {
             machine.store.act::<V>(action);
@@ -106,32 +103,34 @@ pub(crate) fn worker_turn<D: VhostUserBackendMut, V: Service>(
     device: &mut D,
     service: &mut V,
     constants: &Constants,
+    setup: &Setup,
     worker: u32,
 ) -> Result<Play, OutOfMemory>
-    requires { NeverFails machine.old.store.host }
-    ensures turn { (guest : List Guest) → ForWiring machine.old (λ g control. IfOk result
-        (λ l. Turn (meaning_by V.Service)
-        (world_of g control guest machine.old service.old) (Party.Worker worker) l
-        (world_of g control guest machine.new service.new))) }
-    ensures least { (guest : List Guest) → ForWiring machine.old (λ g control. IfOk result (λ l.
-        IsLeast (world_of g control guest machine.old service.old) (Party.Worker worker) l)) }
-    ensures made { (guest : List Guest) → ForWiring machine.old (λ g control. IfOk result (λ l.
-        HasMade (telling_by D.VhostUserBackendMut)
+    requires { IsWhole machine.old }
+    ensures turn { IfOk result (λ l. Turn (meaning_by V.Service)
+        (world_of setup.now machine.old service.old) (Party.Worker worker) l
+        (world_of setup.now machine.new service.new)) }
+    ensures least { IfOk result (λ l.
+        IsLeast (world_of setup.now machine.old service.old) (Party.Worker worker) l) }
+    ensures made { IfOk result (λ l. HasMade (telling_by D.VhostUserBackendMut)
         (state_by D.VhostUserBackendMut device.old) (state_by D.VhostUserBackendMut device.new)
-        (call_at (world_of g control guest machine.old service.old) (Party.Worker worker) l))) }
-    ensures workers { ForWiring machine.old (λ g control. AreHandlers g 0 machine.new.workers.items) }
-    ensures sound { NeverFails machine.new.store.host }
-    ensures count { length machine.new.workers.items ≡ length machine.old.workers.items }
-    ensures service { ForWiring machine.old (λ g control. OnErr result (service.new ≡ service.old)) }
-    ensures device { ForWiring machine.old (λ g control. OnErr result (HasMade (telling_by D.VhostUserBackendMut)
-        (state_by D.VhostUserBackendMut device.old) (state_by D.VhostUserBackendMut device.new) [])) }
+        (call_at (world_of setup.now machine.old service.old) (Party.Worker worker) l)) }
+    ensures calls { IfOk result (λ l. machine.new.calls.items ≡ machine.old.calls.items
+        ++ map device_call (call_at (world_of setup.now machine.old service.old) (Party.Worker worker) l)) }
+    ensures whole { OnOk result (IsWhole machine.new) }
+    ensures count { OnOk result (length machine.new.workers.items ≡ length machine.old.workers.items) }
+    ensures service { OnErr result (service.new ≡ service.old) }
+    ensures device { OnErr result (HasMade (telling_by D.VhostUserBackendMut)
+        (state_by D.VhostUserBackendMut device.old) (state_by D.VhostUserBackendMut device.new) []) }
 {
     if worker as usize >= machine.workers.len() {
         return Ok(Play::Pass);
     }
     machine.records.reserve()?;
+    machine.calls.reserve(1)?;
     let handler = &mut machine.workers[worker as usize];
     let footprint = next_footprint(machine.store.rings.as_slice(), handler.phase());
+    let token = token_in(handler.phase());
     let play = play_worker(
         alloc,
         &mut machine.store,
@@ -149,5 +148,6 @@ pub(crate) fn worker_turn<D: VhostUserBackendMut, V: Service>(
         handler.phase(),
         finished,
     )?;
+    push_into(&mut machine.calls, heard_call(worker, token, &play));
     Ok(play)
 }

@@ -1,9 +1,6 @@
-use Rattle.std.proofs.Common.{rules, ◌≡◌, ◌∙◌, ◌<◌, ◌^◌, List, length, refl, subst, arith}
-use Rattle.vub_model.specs.declared.setup.Guest.{Guest}
-use Rattle.vub_model.specs.declared.setup.Object.{Object}
-use Rattle.vub_model.specs.World.{World}
-use Rattle.vub_model.specs.Opening.{opening_control, wiring_of}
+use Rattle.std.proofs.Common.{rules, ◌≡◌, ◌∙◌, ◌<◌, ◌^◌, length, refl, subst, arith}
 use Rattle.vub_model.specs.RunRecords.{Shows}
+use Rattle.vub_model.specs.World.{World}
 use Rattle.vub_core.specs.DeviceRun.{state_by, telling_by}
 use Rattle.vub_core.specs.Machine.{world_of}
 use Rattle.vub_core.specs.Meanings.{meaning_by}
@@ -18,9 +15,12 @@ returns-then-schedule-ge-MAX_TURNS-clause-refused g c =
     let d = state_by g.D.VhostUserBackendMut c.args.device.now in
     none-played (meaning_by g.V.Service) (telling_by g.D.VhostUserBackendMut) c.args.constants.now c.args.setup.now c.args.service.now c.args.schedule.now d d c.args.service.now refl (opening-service c.args.constants.now c.args.setup.now c.args.service.now) refl
 
+pub play-requires-clause-opened : goal.play-requires-clause-opened
+play-requires-clause-opened g c = world_for c.args.constants.now c.args.setup.now c.args.service.now c.args.machine c.requires.opened
+
 pub finish-requires-clause-workers : goal.finish-requires-clause-workers
 finish-requires-clause-workers g c =
-    let count : length c.play.new.machine.workers.items ≡ length c.args.constants.now.masks = c.play.ensures.count ∙ worker-count c.args.constants.now c.args.setup.now c.args.machine c.requires.opened in
+    let count : length c.play.new.machine.workers.items ≡ length c.args.constants.now.masks = c.in-Ok.ensures.count ∙ worker-count c.args.constants.now c.args.setup.now c.args.machine c.requires.opened in
     omega (arith, c.requires.numbers)
 
 pub returns-in-Err-clause-refused : goal.returns-in-Err-clause-refused
@@ -32,16 +32,11 @@ returns-in-Err-clause-refused g c =
     let t = telling_by g.D.VhostUserBackendMut in
     let d = state_by g.D.VhostUserBackendMut c.args.device.now in
     let e = state_by g.D.VhostUserBackendMut c.play.new.device in
-    let w = wiring_of k (length s.objects) in
-    let control = opening_control k s v in
     let turns = c.args.schedule.now in
     let labels = c.play.new.labels.items in
-    let G : List Guest → Type 0 = λ gs. WasCutShort m t turns labels (world_of w control gs c.args.machine v) c.play.new.service d e in
     let O : World g.row.V.Denot → Type 0 = λ o. WasCutShort m t turns labels o c.play.new.service d e in
-    let guest : c.as_slice-guest.result.now ≡ s.guest = search rules in
-    let cut : G c.as_slice-guest.result.now = c.in-Err.ensures.cut w control c.requires.workers refl in
     let long : c.len.result ≡ length labels = search rules in
-    some-played m t k s v turns d e labels c.play.new.service c.len.result c.requires.valid long (subst O (world_for k s v c.args.machine c.requires.opened) (subst G guest cut))
+    some-played m t k s v turns d e labels c.play.new.service c.len.result c.requires.valid long (subst O (world_for k s v c.args.machine c.requires.opened) c.in-Err.ensures.cut)
 
 pub returns-in-Ok-finish-clause-played : goal.returns-in-Ok-finish-clause-played
 returns-in-Ok-finish-clause-played g c =
@@ -52,21 +47,14 @@ returns-in-Ok-finish-clause-played g c =
     let t = telling_by g.D.VhostUserBackendMut in
     let d = state_by g.D.VhostUserBackendMut c.args.device.now in
     let e = state_by g.D.VhostUserBackendMut c.play.new.device in
-    let w = wiring_of k (length s.objects) in
-    let control = opening_control k s v in
     let turns = c.args.schedule.now in
     let labels = c.play.new.labels.items in
-    let G : List Guest → Type 0 = λ gs. HasPlayed m t turns labels (world_of w control gs c.args.machine v) (world_of w control gs c.play.new.machine c.play.new.service) d e in
-    let O : World g.row.V.Denot → Type 0 = λ o. HasPlayed m t turns labels o (world_of w control s.guest c.play.new.machine c.play.new.service) d e in
-    let guest : c.as_slice-guest.result.now ≡ s.guest = search rules in
-    let objects : c.as_slice.result.now ≡ s.objects = search rules in
-    let played : G c.as_slice-guest.result.now = c.in-Ok.ensures.played w control c.requires.workers refl in
-    let S : List Object → List Guest → Type 0 = λ os gs. Shows os labels (world_of w control gs c.play.new.machine c.play.new.service) c.in-Ok-finish.run' in
-    let shows : S c.as_slice.result.now c.as_slice-guest.result.now = c.in-Ok-finish.ensures w control (c.play.ensures.workers w control c.requires.workers refl) refl in
+    let calls = c.play.new.machine.calls.items in
+    let closing = world_of s c.play.new.machine c.play.new.service in
+    let O : World g.row.V.Denot → Type 0 = λ o. HasPlayed m t turns labels calls o closing d e in
     let short : length turns < 2 ^ 63 = omega (arith, c.if-schedule-ge-MAX_TURNS.false) in
-    all-played m t k s v turns d e labels (world_of w control s.guest c.play.new.machine c.play.new.service) c.play.new.service c.in-Ok-finish.run' c.requires.valid short
-    (subst O (world_for k s v c.args.machine c.requires.opened) (subst G guest played)) refl
-    (subst (λ os. S os s.guest) objects (subst (λ gs. S c.as_slice.result.now gs) guest shows))
+    all-played m t k s v turns d e labels calls closing c.play.new.service c.in-Ok-finish.run' c.requires.valid short
+    (subst O (world_for k s v c.args.machine c.requires.opened) c.in-Ok.ensures.played) refl c.in-Ok-finish.ensures
 
 pub returns-in-Err-finish-clause-refused : goal.returns-in-Err-finish-clause-refused
 returns-in-Err-finish-clause-refused g c =
@@ -77,14 +65,11 @@ returns-in-Err-finish-clause-refused g c =
     let t = telling_by g.D.VhostUserBackendMut in
     let d = state_by g.D.VhostUserBackendMut c.args.device.now in
     let e = state_by g.D.VhostUserBackendMut c.play.new.device in
-    let w = wiring_of k (length s.objects) in
-    let control = opening_control k s v in
     let turns = c.args.schedule.now in
     let labels = c.play.new.labels.items in
-    let G : List Guest → Type 0 = λ gs. HasPlayed m t turns labels (world_of w control gs c.args.machine v) (world_of w control gs c.play.new.machine c.play.new.service) d e in
-    let O : World g.row.V.Denot → Type 0 = λ o. HasPlayed m t turns labels o (world_of w control s.guest c.play.new.machine c.play.new.service) d e in
-    let guest : c.as_slice-guest.result.now ≡ s.guest = search rules in
-    let played : G c.as_slice-guest.result.now = c.in-Ok.ensures.played w control c.requires.workers refl in
+    let calls = c.play.new.machine.calls.items in
+    let closing = world_of s c.play.new.machine c.play.new.service in
+    let O : World g.row.V.Denot → Type 0 = λ o. HasPlayed m t turns labels calls o closing d e in
     let long : c.len-done.result ≡ length labels = search rules in
-    end-played m t k s v turns d e labels (world_of w control s.guest c.play.new.machine c.play.new.service) c.play.new.service c.len-done.result c.requires.valid long
-    (subst O (world_for k s v c.args.machine c.requires.opened) (subst G guest played)) refl
+    end-played m t k s v turns d e labels calls closing c.play.new.service c.len-done.result c.requires.valid long
+    (subst O (world_for k s v c.args.machine c.requires.opened) c.in-Ok.ensures.played) refl
