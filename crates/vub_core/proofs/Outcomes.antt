@@ -23,6 +23,7 @@ use Rattle.vub_model.specs.Service.{Meaning}
 use Rattle.vub_model.specs.ValidSetup.{IsValid, fault_of}
 use Rattle.vub_model.specs.World.{World}
 use Rattle.vub_model.proofs.Headline.{headline-of-setup}
+use Rattle.vub_laws.proofs.Orderly.{laws-of-setup}
 use Rattle.vub_core.specs.DeviceRun.{DeviceState, HasMade}
 use Rattle.vub_core.specs.Outcome.{IsPlayed, IsCutShort, IsRefused}
 use Rattle.vub_core.specs.Played.{HasPlayed, WasCutShort}
@@ -71,6 +72,7 @@ module _ {V D : Type 0} (m : Meaning V) (t : Telling D) (k : Constants) (setup :
         value = value;
         made = so.made;
         faithful = headline-of-setup m k setup v schedule so.plays closing short valid so.is_run;
+        orderly = laws-of-setup m k setup v schedule so.plays closing short valid so.is_run;
       }
 
   -- want of memory before the first turn

@@ -8,6 +8,7 @@ use Rattle.vub_model.specs.declared.run.Run.{Run}
 use Rattle.vub_model.specs.declared.setup.Setup.{Setup}
 use Rattle.vub_model.specs.DeviceCalls.{Telling, label_of, calls}
 use Rattle.vub_model.specs.Faithful.{IsFaithful}
+use Rattle.vub_laws.specs.Orderly.{IsOrderly}
 use Rattle.vub_model.specs.Opening.{opening}
 use Rattle.vub_model.specs.RunOf.{IsRun, PollsLeast}
 use Rattle.vub_model.specs.RunRecords.{Shows}
@@ -18,8 +19,9 @@ use Rattle.vub_core.specs.DeviceRun.{DeviceState, HasMade}
 
 -- The headline. The run handed back shows the labels of plays that are a run of the machine of party turns for this
 -- schedule, from the opening of the set-up: each turn passes only where its party has no step, and each poll takes the
--- ready member with the least number. The run is faithful: what that says of entries, uses, writes and kicks stands
--- there. Service and device are as their calls in this run left them.
+-- ready member with the least number. The run is faithful: what that says of entries, uses, writes, kicks and answers
+-- stands there. It is orderly: its work drains, and a queue that nothing disturbs is served as alone. Service and device
+-- are as their calls in this run left them.
 pub record IsPlayed {V D : Type 0} (m : Meaning V) (t : Telling D) (constants : Constants) (setup : Setup)
     (schedule : List ℕ) (v end : V) (before now : DeviceState D) (run : Run) : Type 0 where
   pub valid : IsValid constants setup
@@ -32,6 +34,7 @@ pub record IsPlayed {V D : Type 0} (m : Meaning V) (t : Telling D) (constants : 
   pub value : end ≡ closing.shared.service
   pub made : HasMade t before now (calls m schedule plays (opening constants setup v))
   pub faithful : IsFaithful m constants setup v schedule plays closing
+  pub orderly : IsOrderly m constants setup v schedule plays closing
 
 -- Memory was refused after this many turns. They are a run for the front of the schedule, from the opening of the
 -- set-up, each of whose polls takes the ready member with the least number, as in the run of the whole schedule; and
