@@ -28,13 +28,25 @@ pub fn expect_texts(rt: &impl Abort, alloc: Global, cases: &[Case]) -> Result<()
     Ok(())
 }
 
-fn plain_cases() -> [Case; 7] {
+fn plain_cases() -> [Case; 8] {
     [
         base(),
         Case {
             name: "without turns nothing happens, and the guest has steps left",
             turns: r#""schedule":[]"#,
             text: "turns 0 played 0 rest no\n",
+            ..base()
+        },
+        Case {
+            name: "work drains: after 14 steps nothing is left, however many turns follow",
+            turns: r#""schedule":[0,0,0,0],"rounds":100"#,
+            text: "turns 304 played 14 rest yes
+take 0 0 0 head 0 request 68656c6c6f room 16
+use 0 0 0 head 0 length 5 reply 68656c6c6f
+count 2 1
+write 0 8194 01000000000005000000
+write 0 16384 68656c6c6f
+",
             ..base()
         },
         Case {
