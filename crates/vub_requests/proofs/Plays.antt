@@ -1,5 +1,5 @@
 -- Steps that are played one after the other.
-use Rattle.std.proofs.Common.{◌≡◌, ◌⊎◌, inl, inr, ℕ, ◌<◌, ◌≤◌, Result, Ok, Err, Bool, true, false, ◌||◌, List, [], ◌∷◌, ◌++◌, length, Option, Some, None, refl, sym, ap, ◌∙◌, subst, arith}
+use Rattle.std.proofs.Common.{◌≡◌, ◌⊎◌, inl, inr, ℕ, ◌<◌, ◌≤◌, Result, Ok, Err, IfOk, Bool, true, false, ◌||◌, List, [], ◌∷◌, ◌++◌, length, Option, Some, None, refl, sym, ap, ◌∙◌, subst, arith}
 use Rattle.std.proofs.lemmas.List.{append_assoc, append-nil}
 use Rattle.vub_base.specs.Causes.{Rose}
 use Rattle.vub_base.specs.Told.{Told}
@@ -27,9 +27,10 @@ use Rattle.vub_handler.specs.Player.{Player}
 use Rattle.vub_handler.specs.declared.played.Progress.{Progress}
 use Rattle.vub_handler.specs.declared.played.Progress.TheVariants as progress
 use Rattle.vub_handler.specs.Playing.{CameTo, ComesNearer, IsHeld, WaitsAt, PlayedBy, left_of, IsKnown, IsPlayRow, IsPlayFault, IsCausedReply, IsDueFrom, IsPlayed, host_answer}
-use Rattle.vub_requests.specs.Handling.{HandledStep, AllNamed, IsNext, LeadTo, AnswersLast, ArePlays, ArePlanned, calls_of, has_refusal, IsCausedBy, PlaysAll, Finishes, HandledBy}
+use Rattle.vub_requests.specs.Handling.{HandledStep, AllNamed, IsNext, LeadTo, AnswersLast, ArePlays, ArePlanned, calls_of, has_refusal, IsCausedBy, PlaysAll, answer_in, Finishes, HandledBy}
 use Rattle.vub_requests.specs.declared.unanswered.Unanswered.{Unanswered}
 use Rattle.vub_requests.specs.declared.unanswered.Unanswered.TheVariants.{Waits, OutOfMemory}
+use Rattle.vub_requests.proofs.Plain.{begun_plain}
 use Rattle.vub_requests.proofs.Named.{named-after, rest-named}
 
 -- Counts
@@ -383,6 +384,11 @@ module _ {V D : Type 0} (t : Telling D) where
 
 -- Requests
 
+answer-caused : (F R : Type 0) (was left : Reply) (result : Result Answer Unanswered) → IsCausedBy F R was left (answer_in result) → IsCausedReply F R was → IfOk result (IsCausedAnswer F R)
+answer-caused F R was left (Ok a) (inl due) plain = due-caused F R was a plain due
+answer-caused F R was left (Ok a) (inr caused) plain = caused
+answer-caused F R was left (Err e) caused plain = tt
+
 module _ {V D : Type 0} (t : Telling D) (request : Request) where
   pub handled : (before now : Player) (begun left : Begun) (old new : PartsState V D) (result : Result Answer Unanswered) → IsPlanOf before.wiring before.known before.session request begun → Finishes t before now begun left old new result → HandledBy t request before now old new result
   handled before now begun left old new result plan plays = inl record {
@@ -390,6 +396,7 @@ module _ {V D : Type 0} (t : Telling D) (request : Request) where
     left = left;
     plan = plan;
     plays = plays;
+    caused = answer-caused (HasFailed old new) (HasRefused old new) begun.plan.reply left.plan.reply result plays.plays.caused (begun_plain before.wiring before.known before.session request begun plan (HasFailed old new) (HasRefused old new));
   }
 
   pub unbegun : (held : Player) (state : PartsState V D) → HandledBy t request held held state state (Err OutOfMemory)

@@ -119,6 +119,8 @@ pub record Handles {V D : Type 0} (t : Telling D) (request : Request) (before no
   pub left : Begun
   pub plan : IsPlanOf before.wiring before.known before.session request begun
   pub plays : Finishes t before now begun left old new result
+  -- told or not, an answer names host or device as its cause only where their counts rose
+  pub caused : IfOk result (IsCausedAnswer (HasFailed old new) (HasRefused old new))
 
 -- memory was refused before the request had its plan: nothing changes
 pub record IsUnbegun {V D : Type 0} (before now : Player) (old new : PartsState V D) (result : Result Answer Unanswered)

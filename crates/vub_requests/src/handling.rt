@@ -36,7 +36,7 @@ fn finish<P: Parts>(
 ///
 /// # Errors
 /// `Waits` where an entry in flight lets the next step wait; or want of memory. The steps before it stand.
-#[tactic(auto, using(crate::proofs::Plays::handled, crate::proofs::Plays::unbegun))]
+#[tactic(auto, using(crate::proofs::Plays::unbegun))]
 pub fn handle_with<P: Parts>(
     handler: &mut VhostUserHandler,
     alloc: Global,

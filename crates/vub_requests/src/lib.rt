@@ -26,3 +26,6 @@ pub use session::{
 };
 pub use unanswered::Unanswered;
 pub use vub_handler::VhostUserHandler;
+
+#[cfg(test)]
+mod tests;
