@@ -273,7 +273,7 @@ module _ {V D : Type 0} (t : Telling D) (before : Player) (was left : Begun) (o 
 
 -- The Answer
 
-answer-first : (steps : List Small) → stage_of steps ≡ stage.Answer → steps ≡ Answering ∷ tail_of steps
+pub answer-first : (steps : List Small) → stage_of steps ≡ stage.Answer → steps ≡ Answering ∷ tail_of steps
 answer-first [] is = absurd cc
 answer-first (s ∷ rest) is = by s (sym (stage-first s rest) ∙ is) where
   by : (s : Small) → stage_of (s ∷ []) ≡ stage.Answer → s ∷ rest ≡ Answering ∷ rest

@@ -1,6 +1,7 @@
 -- What a session plays of a request: its first step that is left, as the machine's control plays it.
-use Rattle.std.specs.Prelude.{◌≡◌, ◌⊎◌, true, List, [], ◌∷◌, map, slice_set, option_to_list, Option, Some, None, Result}
-use Rattle.std.specs.Prelude.{IfOk, OnErr}
+use Rattle.std.specs.Prelude.{◌≡◌, ◌⊎◌, ℕ, ◌+◌, ◌<◌, true, List, [], ◌∷◌, length, map, slice_set, option_to_list}
+use Rattle.std.specs.Prelude.{Option, Some, None, Result, IfOk, OnErr}
+use Rattle.std.specs.Option.{ForSome}
 use Rattle.vub_mem.specs.declared.region.Region.{Region}
 use Rattle.vub_proto.specs.declared.answer.Answer.{Answer}
 use Rattle.vub_proto.specs.declared.answer.Answer.TheVariants as answer
@@ -15,10 +16,12 @@ use Rattle.vub_model.specs.Control.{instead, tail_of}
 use Rattle.vub_model.specs.DeviceCalls.{Telling, is_refused}
 use Rattle.vub_model.specs.Frame.{known_of}
 use Rattle.vub_model.specs.FrameSteps.{known_after}
-use Rattle.vub_model.specs.Plans.{Reply, says}
+use Rattle.vub_model.specs.Plans.{Reply, says, next_of}
 use Rattle.vub_model.specs.Shared.{Shared}
 use Rattle.vub_vring.specs.Calls.{IsCounted}
 use Rattle.vub_vring.specs.PartsState.{PartsState, HasFailed, Tells, Lasts}
+use Rattle.vub_plan.specs.declared.half.Head.{Head}
+use Rattle.vub_plan.specs.declared.half.Head.TheVariants as head
 use Rattle.vub_plan.specs.Halves.{Begun, plan_at, dropped}
 use Rattle.vub_plan.specs.Wires.{known_in}
 use Rattle.vub_handler.specs.declared.played.Played.{Played}
@@ -110,6 +113,35 @@ CameTo t progress.Going before now was left old new =
     (p : Played) × (p.answer ≡ None) × PlayedBy t (Some p) before now was left old new
 CameTo t (progress.Done a) before now was left old new =
     (p : Played) × (p.answer ≡ Some a) × PlayedBy t (Some p) before now was left old new
+
+-- told or not, a request is answered what is due
+abbrev pub IsDueFrom : Reply → Answer → Type 0
+IsDueFrom (says a) x = x ≡ a
+IsDueFrom (next_of queue) x = (n : ℕ) × (x ≡ answer.Base queue n)
+
+-- more than the steps that are left: what comes before the others counts for its steps and for the Answer of a refusal
+abbrev pub head_left : Head → ℕ
+head_left head.None = 0
+head_left (head.Update regions) = 2
+head_left (head.Table change) = 3
+
+abbrev pub left_of : Begun → ℕ
+left_of b = head_left b.head + length b.plan.steps
+
+-- Told or not, each step that is played brings a request nearer to its end, and its Answer says what is due.
+pub record IsMove (p : Played) (was left : Begun) : Type 0 where
+  pub nearer : left_of left < left_of was
+  pub due : ForSome p.answer (IsDueFrom was.plan.reply)
+
+abbrev pub MovesBy : Option Played → Begun → Begun → Type 0
+MovesBy None was left = Unit {0}
+MovesBy (Some p) was left = IsMove p was left
+
+-- the same, by how far the request came
+abbrev pub ComesNearer : Progress → Begun → Begun → Type 0
+ComesNearer progress.Waits was left = Unit {0}
+ComesNearer progress.Going was left = left_of left < left_of was
+ComesNearer (progress.Done a) was left = (left_of left < left_of was) × IsDueFrom was.plan.reply a
 
 -- What a play leaves, told or not. Its only error is want of memory, which leaves everything as it was.
 pub record PlayFrame {V D T E : Type 0} (before now : Player) (was left : Begun) (old new : PartsState V D)

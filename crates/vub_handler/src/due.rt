@@ -4,7 +4,7 @@ ghost use Rattle.vub_model.specs.Control.{is_refusal};
 ghost use Rattle.vub_model.specs.Plans.{next_of};
 ghost use Rattle.vub_plan.specs.Halves.{reply_of};
 ghost use Rattle.vub_handler.specs.Acting.{PlainFrame};
-ghost use Rattle.vub_handler.specs.Playing.{IsDueBy};
+ghost use Rattle.vub_handler.specs.Playing.{IsDueBy, IsDueFrom};
 
 use std::alloc::Global;
 use vub_base::{Bytes, OutOfMemory};
@@ -53,6 +53,7 @@ fn no_base(queue: u32) -> Answer
 #[tactic(auto, using(crate::proofs::PlayRows::base_told, crate::proofs::PlayRows::done_told, crate::proofs::PlayRows::waits_told))]
 fn next_of<P: Parts>(alloc: Global, parts: &mut P, queue: u32) -> Result<Answer, OutOfMemory>
     ensures row { IsDueBy (next_of queue) result (P.state parts.old) (P.state parts.new) }
+    ensures due { IfOk result (IsDueFrom (next_of queue)) }
     ensures frame { PlainFrame (P.state parts.old) (P.state parts.new) result }
 {
     match parts.ring(alloc, queue, RingOp::GetBase) {
@@ -74,6 +75,7 @@ pub(crate) fn due_answer<P: Parts>(
     due: &Due,
 ) -> Result<Answer, OutOfMemory>
     ensures row { IsDueBy (reply_of due.now) result (P.state parts.old) (P.state parts.new) }
+    ensures due { IfOk result (IsDueFrom (reply_of due.now)) }
     ensures frame { PlainFrame (P.state parts.old) (P.state parts.new) result }
 {
     match due {

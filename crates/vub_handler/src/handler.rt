@@ -4,7 +4,7 @@ ghost use Rattle.vub_model.specs.Control.{is_refusal};
 ghost use Rattle.vub_vring.specs.Calls.{telling};
 ghost use Rattle.vub_plan.specs.Halves.{stage_of, IsPlanOf};
 ghost use Rattle.vub_handler.specs.Player.{new_player, mapped};
-ghost use Rattle.vub_handler.specs.Playing.{PlayedBy, CameTo, PlayFrame};
+ghost use Rattle.vub_handler.specs.Playing.{PlayedBy, CameTo, MovesBy, ComesNearer, PlayFrame};
 
 use crate::acted::Acted;
 use crate::acting::act;
@@ -147,7 +147,7 @@ impl VhostUserHandler {
     pub fn close(self) {}
 
     /// The table of guest memory is changed; the device is told of its regions next.
-    #[tactic(auto, using(crate::proofs::PlaySteps::table_accepted, crate::proofs::PlaySteps::table_refused))]
+    #[tactic(auto, using(crate::proofs::PlaySteps::table_accepted, crate::proofs::PlaySteps::table_refused, crate::proofs::PlayMoves::accepted_moves, crate::proofs::PlayMoves::refused_moves))]
     fn play_table<P: Parts>(
         &self,
         alloc: Global,
@@ -158,6 +158,7 @@ impl VhostUserHandler {
         requires { half.old.head ≡ Head.Table op }
         ensures row { IfOk result (λ played. PlayedBy (telling P.Device.said P.Device.moved) played self.now self.now
             half.old half.new (P.state parts.old) (P.state parts.new)) }
+        ensures moves { IfOk result (λ played. MovesBy played half.old half.new) }
         ensures frame { PlayFrame self.now self.now half.old half.new (P.state parts.old) (P.state parts.new) result }
     {
         let small = Boxed::new(alloc, Small::Table(copied_change(alloc, &op)?))?;
@@ -175,7 +176,7 @@ impl VhostUserHandler {
     }
 
     /// The device is told of the regions of guest memory.
-    #[tactic(auto, using(crate::proofs::PlaySteps::update_played, crate::proofs::PlaySteps::update_held))]
+    #[tactic(auto, using(crate::proofs::PlaySteps::update_played, crate::proofs::PlaySteps::update_held, crate::proofs::PlayMoves::update_moves))]
     fn play_update<P: Parts>(
         &self,
         alloc: Global,
@@ -186,6 +187,7 @@ impl VhostUserHandler {
         requires { half.old.head ≡ Head.Update regions }
         ensures row { IfOk result (λ played. PlayedBy (telling P.Device.said P.Device.moved) played self.now self.now
             half.old half.new (P.state parts.old) (P.state parts.new)) }
+        ensures moves { IfOk result (λ played. MovesBy played half.old half.new) }
         ensures frame { PlayFrame self.now self.now half.old half.new (P.state parts.old) (P.state parts.new) result }
     {
         let small = Boxed::new(alloc, Small::Device(DeviceOp::UpdateMemory(regions)))?;
@@ -200,7 +202,7 @@ impl VhostUserHandler {
     }
 
     /// The next of the steps is played, which is no Answer.
-    #[tactic(auto, using(crate::proofs::PlaySteps::step_played, crate::proofs::PlaySteps::step_held))]
+    #[tactic(auto, using(crate::proofs::PlaySteps::step_played, crate::proofs::PlaySteps::step_held, crate::proofs::PlayMoves::step_moves))]
     fn play_step<P: Parts>(
         &mut self,
         alloc: Global,
@@ -211,6 +213,7 @@ impl VhostUserHandler {
         requires stage { stage_of half.old.plan.steps ≡ Stage.Step }
         ensures row { IfOk result (λ played. PlayedBy (telling P.Device.said P.Device.moved) played self.old self.new
             half.old half.new (P.state parts.old) (P.state parts.new)) }
+        ensures moves { IfOk result (λ played. MovesBy played half.old half.new) }
         ensures frame { PlayFrame self.old self.new half.old half.new (P.state parts.old) (P.state parts.new) result }
     {
         match half.first() {
@@ -240,7 +243,7 @@ impl VhostUserHandler {
     }
 
     /// The request is answered.
-    #[tactic(auto, using(crate::proofs::PlaySteps::answer_played))]
+    #[tactic(auto, using(crate::proofs::PlaySteps::answer_played, crate::proofs::PlayMoves::answer_moves))]
     fn play_answer<P: Parts>(
         &mut self,
         alloc: Global,
@@ -251,6 +254,7 @@ impl VhostUserHandler {
         requires stage { stage_of half.old.plan.steps ≡ Stage.Answer }
         ensures row { IfOk result (λ played. PlayedBy (telling P.Device.said P.Device.moved) played self.old self.new
             half.old half.new (P.state parts.old) (P.state parts.new)) }
+        ensures moves { IfOk result (λ played. MovesBy played half.old half.new) }
         ensures frame { PlayFrame self.old self.new half.old half.new (P.state parts.old) (P.state parts.new) result }
     {
         let small = Boxed::new(alloc, Small::Answer)?;
@@ -275,6 +279,7 @@ impl VhostUserHandler {
     ) -> Result<Option<Played>, OutOfMemory>
         ensures row { IfOk result (λ played. PlayedBy (telling P.Device.said P.Device.moved) played self.old self.new
             half.old half.new (P.state parts.old) (P.state parts.new)) }
+        ensures moves { IfOk result (λ played. MovesBy played half.old half.new) }
         ensures frame { PlayFrame self.old self.new half.old half.new (P.state parts.old) (P.state parts.new) result }
     {
         match half.head() {
@@ -306,6 +311,7 @@ impl VhostUserHandler {
     ) -> Result<Progress, OutOfMemory>
         ensures row { IfOk result (λ progress. CameTo (telling P.Device.said P.Device.moved) progress
             self.old self.new half.old half.new (P.state parts.old) (P.state parts.new)) }
+        ensures moves { IfOk result (λ progress. ComesNearer progress half.old half.new) }
         ensures frame { PlayFrame self.old self.new half.old half.new (P.state parts.old) (P.state parts.new) result }
     {
         match self.play(alloc, half, parts)? {
