@@ -6,10 +6,9 @@ use Rattle.vub_proto.specs.declared.request.Request.{Request}
 use Rattle.vub_proto.specs.declared.request.Request.TheVariants as request
 use Rattle.vub_model.specs.declared.setup.Setup.{Setup}
 use Rattle.vub_model.specs.declared.small.Small.{Small}
-use Rattle.vub_model.specs.declared.wiring.Known.{Known}
 use Rattle.vub_model.specs.Control.{Control, begun}
 use Rattle.vub_model.specs.Frame.{Frame, known_of, frame_of}
-use Rattle.vub_model.specs.Plans.{Plan, is_empty, plan_of}
+use Rattle.vub_model.specs.Plans.{is_empty, plan_of}
 use Rattle.vub_model.specs.Schedule as schedule
 use Rattle.vub_model.specs.Shared.{Shared}
 use Rattle.vub_model.specs.Wiring.{Wiring}

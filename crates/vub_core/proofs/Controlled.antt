@@ -15,7 +15,7 @@ use Rattle.vub_model.specs.DeviceCalls.{Call, Telling, call_at, device_call}
 use Rattle.vub_model.specs.RunOf.{Turn}
 use Rattle.vub_model.specs.Service.{Meaning}
 use Rattle.vub_model.specs.Shared.{Shared}
-use Rattle.vub_model.specs.World.{World, after_control}
+use Rattle.vub_model.specs.World.{World}
 use Rattle.vub_model.proofs.Drive.{control-stands}
 use Rattle.vub_vring.specs.Store.{shared_of}
 use Rattle.vub_loop.specs.Handler.{phase_of}

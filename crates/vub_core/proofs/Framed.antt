@@ -1,10 +1,8 @@
 -- A step of a worker or of the guest leaves what a plan is fixed by: the frame, and the regions of guest memory.
-use Rattle.std.proofs.Common.{◌≡◌, ℕ, cond, Bool, true, false, List, [], ◌∷◌, Option, Some, None, refl, ap, ◌∙◌, slice_set}
+use Rattle.std.proofs.Common.{◌≡◌, ℕ, Bool, true, false, List, [], ◌∷◌, Option, Some, None, refl, ap, ◌∙◌, slice_set}
 use Rattle.std.proofs.Math.Seq.{map-set_same}
 use Rattle.vub_mem.specs.Memory.{Guest as Memory}
 use Rattle.vub_queue.specs.Put.{put_guest}
-use Rattle.vub_queue.specs.Take.{guest_taken}
-use Rattle.vub_queue.specs.declared.took.Took.TheVariants as took
 use Rattle.vub_model.specs.declared.entry.Entry.{Entry}
 use Rattle.vub_model.specs.declared.play.Play.{Play}
 use Rattle.vub_model.specs.declared.play.Play.TheVariants as play

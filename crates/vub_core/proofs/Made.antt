@@ -1,5 +1,5 @@
 -- Calls of a device, one list after the other.
-use Rattle.std.proofs.Common.{◌≡◌, ℕ, ◌+◌, ◌≤◌, ◌-◌, ◌^◌, ◌⊎◌, inl, inr, min, List, [], ◌∷◌, ◌++◌, Option, Some, None, IsSome, false, true, refl, sym, ap, subst, ◌∙◌, arith}
+use Rattle.std.proofs.Common.{◌≡◌, ℕ, ◌+◌, ◌≤◌, ◌⊎◌, inl, inr, List, [], ◌∷◌, ◌++◌, Option, Some, None, IsSome, false, true, refl, sym, ap, subst, ◌∙◌, arith}
 use Rattle.vub_base.specs.Causes.{Rose}
 use Rattle.vub_base.specs.Told.{Told}
 use Rattle.vub_proto.specs.declared.device_said.DeviceSaid.{DeviceSaid}

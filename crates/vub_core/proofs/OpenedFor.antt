@@ -1,5 +1,5 @@
 -- The opening of a machine is the same for every service.
-use Rattle.std.proofs.Common.{◌≡◌, List, [], length, map, drop, refl, sym, ap, ◌∙◌}
+use Rattle.std.proofs.Common.{◌≡◌, [], length, map, drop, refl, sym, ap, ◌∙◌}
 use Rattle.vub_model.specs.declared.constants.Constants.{Constants}
 use Rattle.vub_model.specs.declared.setup.Setup.{Setup}
 use Rattle.vub_model.specs.declared.phase.Phase.TheVariants.{Idle}

@@ -19,7 +19,7 @@ use Rattle.vub_model.specs.declared.small.Small.TheVariants.{Set, Info, Listen, 
 use Rattle.vub_model.specs.declared.small.Small.TheVariants.{Answer as Answering}
 use Rattle.vub_model.specs.declared.small.TableOp.TheVariants as table_op
 use Rattle.vub_model.specs.Frame.{Frame, known_at}
-use Rattle.vub_model.specs.Plans.{Plan, tested, done, answered, refused, info_plan, addr_plan, indexed, no_flag, plan_of, when, each_queue, enable_steps, disable_steps, call_steps, stop_steps, kick_steps, claim_steps, release_steps, off_steps, update_steps, same_event, exit_steps, is_size, is_empty, is_listener, listener_refused, are_offered, features_steps, reset_steps, table_plan, regions_for, mappings_for, region_for, mapping_for, next_of}
+use Rattle.vub_model.specs.Plans.{Plan, tested, done, answered, refused, info_plan, addr_plan, indexed, no_flag, plan_of, when, each_queue, enable_steps, disable_steps, call_steps, stop_steps, kick_steps, claim_steps, release_steps, off_steps, update_steps, same_event, exit_steps, is_size, is_empty, is_listener, listener_refused, are_offered, features_steps, table_plan, regions_for, mappings_for, region_for, mapping_for, next_of}
 use Rattle.vub_model.specs.Wiring.{Wiring, has_bit, place_of}
 
 abbrev pub HasStep : List Small → Type 0

@@ -1,8 +1,8 @@
 -- What control relies on at its turn holds in every sound world.
-use Rattle.std.proofs.Common.{◌≡◌, ℕ, ◌&&◌, true, List, [], ◌∷◌, length, None, is_some, refl, sym, ap, subst, ◌∙◌}
+use Rattle.std.proofs.Common.{◌≡◌, ℕ, ◌&&◌, true, List, [], ◌∷◌, length, None, is_some, refl, sym, ap, ◌∙◌}
 use Rattle.std.proofs.Math.ListN.{get_or-map}
 use Rattle.std.proofs.lemmas.Bool.{lt-ltb}
-use Rattle.vub_event.specs.HostTable.{has_event, has_list}
+use Rattle.vub_event.specs.HostTable.{has_event}
 use Rattle.vub_event.specs.HostCalls.{has_both}
 use Rattle.vub_model.specs.declared.small.Small.{Small}
 use Rattle.vub_model.specs.declared.small.Small.TheVariants.{Claim, Add, Delete, Listen, Unlisten}

@@ -1,5 +1,5 @@
 -- What control has to do stays in the turns of others.
-use Rattle.std.proofs.Common.{◌≡◌, ℕ, List, map, drop, refl, sym, ap, subst, ◌∙◌}
+use Rattle.std.proofs.Common.{◌≡◌, ℕ, List, map, drop, sym, ap, subst, ◌∙◌}
 use Rattle.std.specs.Global.{Vec}
 use Rattle.vub_mem.specs.declared.region.Region.{Region}
 use Rattle.vub_proto.specs.declared.answer.Answer.{Answer}
@@ -15,7 +15,7 @@ use Rattle.vub_vring.specs.Store.{shared_of}
 use Rattle.vub_plan.specs.Halves.{Begun, plan_at}
 use Rattle.vub_handler.specs.Player.{Player}
 use Rattle.vub_core.specs.declared.machine.Machine.{Machine}
-use Rattle.vub_core.specs.Machine.{control_of, begun_of, world_of}
+use Rattle.vub_core.specs.Machine.{begun_of}
 use Rattle.vub_core.proofs.Framed.{Framed}
 
 module _ {V : Type 0} (setup : Setup) (old new : Machine) (v z : V) (framed : Framed (shared_of old.store v) (shared_of new.store z)) (handler : new.handler ≡ old.handler) where

@@ -22,7 +22,7 @@ use Rattle.vub_model.specs.declared.play.Play.{Play}
 use Rattle.vub_model.specs.declared.play.Play.TheVariants as play
 use Rattle.vub_model.specs.declared.party.Party.TheVariants as party
 use Rattle.vub_model.specs.declared.phase.Phase.{Phase}
-use Rattle.vub_model.specs.declared.phase.Phase.TheVariants.{Idle, Polled, Sweep, Heard, Serving, Taken, Served, Stopped}
+use Rattle.vub_model.specs.declared.phase.Phase.TheVariants.{Serving, Served}
 use Rattle.vub_model.specs.declared.records.Take.{Take}
 use Rattle.vub_model.specs.RingRecord.{Vring, has_addresses}
 use Rattle.vub_model.specs.Shared.{Shared, ring_at}

@@ -1,4 +1,4 @@
-use Rattle.std.proofs.Common.{◌≡◌, List, [], ◌∷◌, ◌++◌, map, Option, Some, None, refl, sym, ap, subst, ◌∙◌}
+use Rattle.std.proofs.Common.{◌≡◌, [], ◌∷◌, ◌++◌, map, Option, None, refl, sym, ap, subst, ◌∙◌}
 use Rattle.std.specs.Option.{option_to_list}
 use Rattle.vub_model.specs.declared.label.Label.TheVariants.{Pass}
 use Rattle.vub_model.specs.DeviceCalls.{device_call}
@@ -10,7 +10,7 @@ use Rattle.vub_core.specs.declared.machine.Machine.{Machine}
 use Rattle.vub_core.specs.DeviceRun.{state_by, telling_by}
 use Rattle.vub_core.specs.Meanings.{meaning_by}
 use Rattle.vub_handler.specs.Acting.{called}
-use Rattle.vub_core.specs.Session.{Sitting, PlaysStep, IsPlayedStep, StoodStill, asked_first}
+use Rattle.vub_core.specs.Session.{Sitting, PlaysStep, IsPlayedStep, asked_first}
 use Rattle.vub_core.proofs.Controlled.{step-turned, still-turned, asked-is}
 use Rattle.vub_core.proofs.control.control_turn.Goals as goal
 

@@ -1,5 +1,4 @@
 use Rattle.std.proofs.Common.{rules, ◌≡◌, ◌∙◌, ◌<◌, ◌^◌, length, refl, subst, arith}
-use Rattle.vub_model.specs.RunRecords.{Shows}
 use Rattle.vub_model.specs.World.{World}
 use Rattle.vub_core.specs.DeviceRun.{state_by, telling_by}
 use Rattle.vub_core.specs.Machine.{world_of}

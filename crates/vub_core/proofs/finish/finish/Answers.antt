@@ -4,7 +4,6 @@ use Rattle.vub_model.specs.RunOf.{IsAtRest}
 use Rattle.vub_model.specs.RunRecords.{stops_from, counts_from, spans_from}
 use Rattle.vub_model.specs.World.{World}
 use Rattle.vub_loop.specs.Handler.{phase_of}
-use Rattle.vub_core.specs.Machine.{world_of}
 use Rattle.vub_core.proofs.Controlled.{world-begun}
 use Rattle.vub_core.proofs.finish.finish.Goals as goal
 

@@ -1,8 +1,5 @@
-use Rattle.std.proofs.Common.{map, refl, sym, ap, subst, ◌∙◌}
-use Rattle.vub_model.specs.Frame.{known_of}
+use Rattle.std.proofs.Common.{map, refl, ap, ◌∙◌}
 use Rattle.vub_model.specs.Opening.{unwritten}
-use Rattle.vub_model.specs.Wiring.{Wiring}
-use Rattle.vub_core.specs.Workers.{AreHandlers}
 use Rattle.vub_core.specs.declared.machine.Machine.{Machine}
 use Rattle.vub_core.proofs.OpenedFor.{machine_opens, wiring_opens}
 use Rattle.vub_core.proofs.opening.open_machine.Goals as goal

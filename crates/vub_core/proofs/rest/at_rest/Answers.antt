@@ -1,9 +1,8 @@
-use Rattle.std.proofs.Common.{rules, ◌≡◌, ◌≤◌, ◌<◌, true, false, length, refl, sym, ap, subst, ◌∙◌, arith}
+use Rattle.std.proofs.Common.{rules, ◌≡◌, true, false, refl, sym, ap, subst, ◌∙◌, arith}
 use Rattle.std.specs.List.{list_all}
 use Rattle.vub_model.specs.Control.{Control, StandsStill}
 use Rattle.vub_loop.specs.Handler.{phase_of}
-use Rattle.vub_vring.specs.Store.{shared_of}
-use Rattle.vub_core.specs.Machine.{control_of, begun_of, world_of}
+use Rattle.vub_core.specs.Machine.{control_of, world_of}
 use Rattle.vub_core.specs.Rest.{rests_in}
 use Rattle.vub_core.proofs.Rests.{rests-both, rests-none, rests-other, still-for, guest-done, guest-left}
 use Rattle.vub_core.proofs.rest.at_rest.Goals as goal
