@@ -53,7 +53,7 @@ module _ {V : Type 0} (setup : Setup) (old new : Machine) (v z : V) where
       let n : World V = world_of setup new z in
       ap (λ ws. record n { phases = map (λ w. phase_of w) ws.items }) workers
       ∙ ap (λ k. record n { phases = map (λ w. phase_of w) old.workers.items; guest = drop k setup.guest }) acted
-      ∙ ap (λ r. record n { phases = map (λ w. phase_of w) old.workers.items; guest = drop old.acted setup.guest; takes = r.takes.items; uses = r.uses.items; written = r.written }) records
+      ∙ ap (λ r. record n { phases = map (λ w. phase_of w) old.workers.items; guest = drop old.acted setup.guest; takes = r.takes.items; uses = r.uses.items; written = r.written; harvests = r.harvests.items }) records
 
 -- where the next request is begun, the world is the same
 pub world-begun : {V : Type 0} (setup : Setup) (old new : Machine) (v : V) → HasBegun setup old new → KeepsParts old new → world_of setup new v ≡ world_of setup old v

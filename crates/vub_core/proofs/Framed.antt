@@ -52,7 +52,7 @@ module _ {V : Type 0} (m : Meaning V) (g : Wiring) (k : ℕ) (h : Shared V) wher
   put-framed : (e : Entry) (reply queues : List ℕ) → Framed h (after_work m g k h (Served e reply queues) play.Put).shared
   put-framed e reply queues =
       put-leaf g k h (λ z. Framed h z.shared) e reply queues
-      (λ wanted. after-called e reply (ring_at h e.queue).call wanted (written h (put_guest h.guest (ring_at h e.queue).queue e.chain reply) e.queue (changed (ring_at h e.queue) op.Put) (regions-put h.guest (ring_at h e.queue).queue e.chain reply) refl))
+      (λ wanted. after-called e reply (ring_at h e.queue).call wanted (let put = written h (put_guest h.guest (ring_at h e.queue).queue e.chain reply) e.queue (changed (ring_at h e.queue) op.Put) (regions-put h.guest (ring_at h e.queue).queue e.chain reply) refl in record { frame = put.frame; regions = put.regions }))
       (λ fault. written h h.guest e.queue (changed (ring_at h e.queue) op.Hold) refl refl)
 
   work-framed : (phase : Phase) (l : Play) → MayWork g k h phase l → Framed h (after_work m g k h phase l).shared

@@ -25,16 +25,18 @@ one-answer P false true is other-is = is.1 (other-is.0 refl)
 one-answer P false false is other-is = refl
 
 -- two runs are the same whose fields are the same
-same-fields : (run other : Run) → run.labels ≡ other.labels → run.answers ≡ other.answers → run.device ≡ other.device → run.takes ≡ other.takes → run.uses ≡ other.uses → run.stops ≡ other.stops → run.counts ≡ other.counts → run.written ≡ other.written → run.rest ≡ other.rest → run ≡ other
-same-fields run other labels answers device takes uses stops counts written rest =
+same-fields : (run other : Run) → run.labels ≡ other.labels → run.answers ≡ other.answers → run.device ≡ other.device → run.takes ≡ other.takes → run.uses ≡ other.uses → run.stops ≡ other.stops → run.counts ≡ other.counts → run.written ≡ other.written → run.logs ≡ other.logs → run.harvests ≡ other.harvests → run.rest ≡ other.rest → run ≡ other
+same-fields run other labels answers device takes uses stops counts written logs harvests rest =
     ap (λ x. record run { labels = x }) labels
     ∙ ap (λ x. record run { labels = other.labels; answers = x }) answers
     ∙ ap (λ x. record run { labels = other.labels; answers = other.answers; device = x }) device
-    ∙ ap (λ x. record other { takes = x; uses = run.uses; stops = run.stops; counts = run.counts; written = run.written; rest = run.rest }) takes
-    ∙ ap (λ x. record other { uses = x; stops = run.stops; counts = run.counts; written = run.written; rest = run.rest }) uses
-    ∙ ap (λ x. record other { stops = x; counts = run.counts; written = run.written; rest = run.rest }) stops
-    ∙ ap (λ x. record other { counts = x; written = run.written; rest = run.rest }) counts
-    ∙ ap (λ x. record other { written = x; rest = run.rest }) written
+    ∙ ap (λ x. record other { takes = x; uses = run.uses; stops = run.stops; counts = run.counts; written = run.written; logs = run.logs; harvests = run.harvests; rest = run.rest }) takes
+    ∙ ap (λ x. record other { uses = x; stops = run.stops; counts = run.counts; written = run.written; logs = run.logs; harvests = run.harvests; rest = run.rest }) uses
+    ∙ ap (λ x. record other { stops = x; counts = run.counts; written = run.written; logs = run.logs; harvests = run.harvests; rest = run.rest }) stops
+    ∙ ap (λ x. record other { counts = x; written = run.written; logs = run.logs; harvests = run.harvests; rest = run.rest }) counts
+    ∙ ap (λ x. record other { written = x; logs = run.logs; harvests = run.harvests; rest = run.rest }) written
+    ∙ ap (λ x. record other { logs = x; harvests = run.harvests; rest = run.rest }) logs
+    ∙ ap (λ x. record other { harvests = x; rest = run.rest }) harvests
     ∙ ap (λ x. record other { rest = x }) rest
 
 -- what a run hands back is a function of its labels and of the world in which it ends
@@ -49,6 +51,8 @@ one-shown objects labels made closing run other shows other-shows =
     (shows.stops_are ∙ sym other-shows.stops_are)
     (shows.counts_are ∙ sym other-shows.counts_are)
     (shows.written_is ∙ sym other-shows.written_is)
+    (shows.logs_are ∙ sym other-shows.logs_are)
+    (shows.harvests_are ∙ sym other-shows.harvests_are)
     (one-answer (IsAtRest closing) run.rest other.rest shows.rests other-shows.rests)
 
 -- a schedule has one run over a device that tells its value

@@ -17,7 +17,7 @@ use Rattle.vub_open.proofs.OpenedFor.{opened_for}
 
 -- a world with other shared parts and another control
 abbrev with_parts : {U V : Type 0} → World U → Shared V → Control → World V
-with_parts w h c = record { shared = h; wiring = w.wiring; phases = w.phases; guest = w.guest; control = c; takes = w.takes; uses = w.uses; written = w.written }
+with_parts w h c = record { shared = h; wiring = w.wiring; phases = w.phases; guest = w.guest; control = c; takes = w.takes; uses = w.uses; written = w.written; harvests = w.harvests }
 
 -- a machine that opens a set-up opens it for every service
 pub world_for : {V : Type 0} (k : Constants) (s : Setup) (v : V) (m : Machine) → opened_world s m ≡ opening k s (tt {0}) → world_of s m v ≡ opening k s v
@@ -51,6 +51,7 @@ pub record Opens (k : Constants) (s : Setup) (m : Machine) : Type 0 where
   pub takes : m.records.takes.items ≡ []
   pub uses : m.records.uses.items ≡ []
   pub written : m.records.written ≡ map unwritten s.objects
+  pub harvests : m.records.harvests.items ≡ []
 
 pub control_opens : (k : Constants) (s : Setup) (m : Machine) → Opens k s m → begun_of s m ≡ (opening k s (tt {0})).control
 unfolding opening
@@ -74,8 +75,9 @@ machine_opens k s m o =
     ap (λ x. record w { shared = x }) o.shared
     ∙ ap (λ x. record w { shared = z.shared; wiring = x }) o.wiring
     ∙ ap (λ x. record w { shared = z.shared; wiring = z.wiring; phases = x }) o.phases
-    ∙ ap (λ x. record z { guest = drop x s.guest; control = w.control; takes = w.takes; uses = w.uses; written = w.written }) o.acted
-    ∙ ap (λ x. record z { control = x; takes = w.takes; uses = w.uses; written = w.written }) (control_opens k s m o)
-    ∙ ap (λ x. record z { takes = x; uses = w.uses; written = w.written }) o.takes
-    ∙ ap (λ x. record z { uses = x; written = w.written }) o.uses
-    ∙ ap (λ x. record z { written = x }) o.written
+    ∙ ap (λ x. record z { guest = drop x s.guest; control = w.control; takes = w.takes; uses = w.uses; written = w.written; harvests = w.harvests }) o.acted
+    ∙ ap (λ x. record z { control = x; takes = w.takes; uses = w.uses; written = w.written; harvests = w.harvests }) (control_opens k s m o)
+    ∙ ap (λ x. record z { takes = x; uses = w.uses; written = w.written; harvests = w.harvests }) o.takes
+    ∙ ap (λ x. record z { uses = x; written = w.written; harvests = w.harvests }) o.uses
+    ∙ ap (λ x. record z { written = x; harvests = w.harvests }) o.written
+    ∙ ap (λ x. record z { harvests = x }) o.harvests

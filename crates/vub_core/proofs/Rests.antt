@@ -159,12 +159,12 @@ rests-other w true is goes = (let no-way : true ≡ false = is in absurd cc)
 rests-other w false is goes = ((λ bad. let no-way : false ≡ true = bad in absurd cc), (λ rest. absurd (goes ((control-stands w).0 (rest party.Control)))))
 
 -- whether a step waits is the same for every service
-waits-any : {V : Type 0} (s : Store (Unit {0})) (v : V) (small : Small) → waits_now (shared_of s v) small ≡ waits_now (shared_of s (tt {0})) small
+waits-any : {V : Type 0} (s : Store) (v : V) (small : Small) → waits_now (shared_of s v) small ≡ waits_now (shared_of s (tt {0})) small
 waits-any s v (Set queue o) = refl
 waits-any s v (Info queue desc avail used) = refl
 waits-any s v small = refl
 
-pub still-for : {V : Type 0} (s : Store (Unit {0})) (v : V) (steps : List Small) → StandsStill (shared_of s (tt {0})) steps ↔ StandsStill (shared_of s v) steps
+pub still-for : {V : Type 0} (s : Store) (v : V) (steps : List Small) → StandsStill (shared_of s (tt {0})) steps ↔ StandsStill (shared_of s v) steps
 still-for s v [] = ((λ still. tt), (λ still. tt))
 still-for s v (small ∷ rest) = ((λ still. waits-any s v small ∙ still), (λ still. sym (waits-any s v small) ∙ still))
 

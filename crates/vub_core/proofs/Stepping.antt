@@ -7,6 +7,7 @@ use Rattle.vub_model.specs.declared.play.Play.{Play}
 use Rattle.vub_model.specs.declared.party.Party.TheVariants as party
 use Rattle.vub_model.specs.declared.phase.Phase.{Phase}
 use Rattle.vub_model.specs.declared.phase.Phase.TheVariants.{Stopped}
+use Rattle.vub_model.specs.declared.records.Harvested.{Harvested}
 use Rattle.vub_model.specs.declared.records.Take.{Take}
 use Rattle.vub_model.specs.Shared.{Shared}
 use Rattle.vub_model.specs.Service.{Meaning}
@@ -26,12 +27,12 @@ pub phase-here : (workers : List Worker) (k : ℕ) (old : Worker) (phases : List
 phase-here workers k old phases are within is =
     ap (λ h. phase_of h) is ∙ sym (get_or-map (λ h. phase_of h) workers k old (Stopped Exit) within) ∙ ap (λ ps. phase_at ps k) (sym are)
 
-pub machine-turned : {V : Type 0} (m : Meaning V) (w : World V) (k : ℕ) (workers : List Worker) (old h : Worker) (new : Shared V) (now : Phase) (f : Footprint) (finished : Option Finished) (takes : List Take) (uses : List Used) (written : List (List Bool)) (l : Play)
-    → w.phases ≡ map (λ h. phase_of h) workers → k < length workers → old ≡ get_or workers k old
+pub machine-turned : {V : Type 0} (m : Meaning V) (w : World V) (k : ℕ) (workers : List Worker) (old h : Worker) (new : Shared V) (now : Phase) (f : Footprint) (finished : Option Finished) (takes : List Take) (uses : List Used) (written : List (List Bool)) (harvests : List Harvested) (l : Play)
+    → harvests ≡ w.harvests → w.phases ≡ map (λ h. phase_of h) workers → k < length workers → old ≡ get_or workers k old
     → IsTurn m w.wiring k l (phase_of old) now w.shared new → IsFootprint w.shared.rings (phase_of old) f → finished ≡ finished_by l (phase_of old) now
     → takes ≡ w.takes ++ takes_by l now → uses ≡ w.uses ++ uses_in finished → IsWritten new.guest.regions f l now finished w.written written → phase_of h ≡ now
-    → Turn m w (party.Worker k) l (record w { shared = new; phases = map (λ h. phase_of h) (set workers k h); takes = takes; uses = uses; written = written })
-machine-turned {V} m w k workers old h new now f finished takes uses written l are within is row foot done took used wrote stands =
+    → Turn m w (party.Worker k) l (record w { shared = new; phases = map (λ h. phase_of h) (set workers k h); takes = takes; uses = uses; written = written; harvests = harvests })
+machine-turned {V} m w k workers old h new now f finished takes uses written harvests l kept are within is row foot done took used wrote stands =
     let here : phase_of old ≡ phase_at w.phases k = phase-here workers k old w.phases are within is in
     let R : Phase → Type 0 = λ p. IsTurn m w.wiring k l p now w.shared new in
     let F : Phase → Type 0 = λ p. IsFootprint w.shared.rings p f in
@@ -42,4 +43,5 @@ machine-turned {V} m w k workers old h new now f finished takes uses written l a
     let turn = turned m w k new now f takes uses written l (subst R here row) (subst F here foot) took (subst U done-here used) (subst W done-here wrote) in
     let phases : set w.phases k now ≡ map (λ h. phase_of h) (set workers k h) = ap (λ ps. set ps k now) are ∙ ap (λ p. set (map (λ h. phase_of h) workers) k p) (sym stands) ∙ sym (map-set (λ h. phase_of h) workers k h) in
     let T : List Phase → Type 0 = λ ps. Turn m w (party.Worker k) l (record w { shared = new; phases = ps; takes = takes; uses = uses; written = written }) in
-    subst T phases turn
+    let H : List Harvested → Type 0 = λ hs. Turn m w (party.Worker k) l (record w { shared = new; phases = map (λ h. phase_of h) (set workers k h); takes = takes; uses = uses; written = written; harvests = hs }) in
+    subst H (sym kept) (subst T phases turn)

@@ -12,11 +12,11 @@ pub record DeviceState (D : Type 0) : Type 0 where
   pub refusals : ℕ
 
 -- what it shows by the contract that it meets
-abbrev pub state_by : {D : Type 0} → Device D → D → DeviceState D
+abbrev pub state_by : {D B I : Type 0} → Device D B I → D → DeviceState D
 state_by d device = record { value = d.value device; refusals = d.refusal_count device }
 
 -- what it means to say at a call, and the value that it means to have then
-abbrev pub telling_by : {D : Type 0} → Device D → Telling D
+abbrev pub telling_by : {D B I : Type 0} → Device D B I → Telling D
 telling_by d = record { said = d.said; moved = d.moved }
 
 abbrev pub refusal_in : DeviceSaid → ℕ

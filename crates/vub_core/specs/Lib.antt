@@ -3,6 +3,7 @@ pub mod Calls
 pub mod DeviceRun
 pub mod Firsts
 pub mod Flags
+pub mod Lowering
 pub mod Machine
 pub mod Meanings
 pub mod Outcome

@@ -33,6 +33,7 @@ world_of setup m v =
       takes = m.records.takes.items;
       uses = m.records.uses.items;
       written = m.records.written;
+      harvests = m.records.harvests.items;
     }
 
 -- the same with a service of no state

@@ -20,8 +20,8 @@ use Rattle.vub_core.specs.DeviceRun.{DeviceState, HasMade}
 -- The headline. The run handed back shows the labels of plays that are a run of the machine of party turns for this
 -- schedule, from the opening of the set-up: each turn passes only where its party has no step, and each poll takes the
 -- ready member with the least number. The run is faithful: what that says of entries, uses, writes, kicks and answers
--- stands there. It is orderly: its work drains, and a queue that nothing disturbs is served as alone. Service and device
--- are as their calls in this run left them.
+-- stands there. It is orderly: its work drains, and a queue that nothing disturbs is served as alone. Service and
+-- device are as their calls in this run left them.
 pub record IsPlayed {V D : Type 0} (m : Meaning V) (t : Telling D) (constants : Constants) (setup : Setup)
     (schedule : List ℕ) (v end : V) (before now : DeviceState D) (run : Run) : Type 0 where
   pub valid : IsValid constants setup

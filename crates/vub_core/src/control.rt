@@ -86,7 +86,7 @@ fn asked(alloc: Global, half: &Half) -> Result<Option<DeviceOp>, OutOfMemory>
 /// Want of memory leaves service and device as they were.
 fn play_step<'a, D: VhostUserBackendMut, V: Service>(
     alloc: Global,
-    store: &'a mut Store<()>,
+    store: &'a mut Store,
     device: &'a mut D,
     service: &'a mut V,
     constants: &'a Constants,

@@ -72,7 +72,7 @@ fn count_in(host: &MemHost, number: u32, object: &Object) -> Option<Count>
     ensures { option_to_list result ≡ count_of_object host.now.table number object.now }
 {
     match object {
-        Object::Content(_) => None,
+        Object::Content(_) | Object::Log { .. } => None,
         Object::Event { .. } => {
             let count = count_of(host, number);
             if count > 0 {

@@ -72,17 +72,18 @@ fn play_opened<D: VhostUserBackendMut, V: Service>(
 
 /// Opens a set-up and plays a schedule, one step a turn: party 0 is the guest, party 1 is control, and party 2 + w is
 /// worker w. A turn of a party that has no step, or is not there, is `Pass`. Each poll takes the ready object with the
-/// least number. Control begins each request where the one before is answered. The device is asked for its constants, and
-/// then what control's steps ask, and to handle each event that a listener reported.
+/// least number. Control begins each request where the one before is answered. The device is asked for its constants,
+/// and then what control's steps ask, and to handle each event that a listener reported.
 ///
-/// The run is one of the machine of party turns, from the opening of the set-up. Each queue took its entries once and in
-/// order, numbered from its base, and used each with the service's reply to the bytes read at taking, but for at most one
-/// in flight or held; and at rest a calm running queue has no entry left.
+/// The run is one of the machine of party turns, from the opening of the set-up. Each queue took its entries once and
+/// in order, numbered from its base, and used each with the service's reply to the bytes read at taking, but for at
+/// most one in flight or held; each page that a worker wrote in a region with a log is marked in it at the end, or was
+/// handed out by a harvest since; and at rest a calm running queue has no entry left.
 ///
 /// # Errors
-/// The first test of `SetupFault` that the set-up fails, and then the service was not asked, nor the device for more than
-/// its constants; or want of memory, where `done` turns are finished, and service and device are as those turns left them.
-/// The turn at which memory was refused does not count, and nothing of it is to be seen.
+/// The first test of `SetupFault` that the set-up fails, and then the service was not asked, nor the device for more
+/// than its constants; or want of memory, where `done` turns are finished, and service and device are as those turns
+/// left them. The turn at which memory was refused does not count, and nothing of it is to be seen.
 pub fn drive<D: VhostUserBackendMut, V: Service>(
     alloc: Global,
     setup: &Setup,
@@ -91,10 +92,10 @@ pub fn drive<D: VhostUserBackendMut, V: Service>(
     schedule: &[u32],
 ) -> Result<Run, DriveFault>
     ensures played { IfOk result (IsPlayed (meaning_by V.Service) (telling_by D.VhostUserBackendMut)
-        (constants_by D.VhostUserBackendMut device.old) setup.now schedule.now service.old service.new
+        (constants_by D.VhostUserBackendMut D.Bitmap.TRACKS device.old) setup.now schedule.now service.old service.new
         (state_by D.VhostUserBackendMut device.old) (state_by D.VhostUserBackendMut device.new)) }
     ensures refused { IfErr result (IsRefused (meaning_by V.Service) (telling_by D.VhostUserBackendMut)
-        (constants_by D.VhostUserBackendMut device.old) setup.now schedule.now service.old service.new
+        (constants_by D.VhostUserBackendMut D.Bitmap.TRACKS device.old) setup.now schedule.now service.old service.new
         (state_by D.VhostUserBackendMut device.old) (state_by D.VhostUserBackendMut device.new)) }
 {
     let constants = match read_constants(alloc, &*device) {

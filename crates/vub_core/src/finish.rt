@@ -7,6 +7,7 @@ ghost use Rattle.vub_core.specs.Whole.{IsWhole};
 
 use crate::control::begin_next;
 use crate::counting::{counts_of, stops_of};
+use crate::logs::logs_of;
 use crate::machine::Machine;
 use crate::records::Records;
 use crate::rest::at_rest;
@@ -43,13 +44,19 @@ pub(crate) fn finish<V: Service>(
         &machine.store.memory,
         objects,
     )?;
+    let logs = logs_of(alloc, machine.store.memory.logs())?;
     let Machine {
         answers,
         calls,
         records,
         ..
     } = machine;
-    let Records { takes, uses, .. } = records;
+    let Records {
+        takes,
+        uses,
+        harvests,
+        ..
+    } = records;
     Ok(Run {
         labels: Listed::from_vec(labels),
         answers: Listed::from_vec(answers),
@@ -59,6 +66,8 @@ pub(crate) fn finish<V: Service>(
         stops: Listed::from_vec(stops),
         counts: Listed::from_vec(counts),
         written: Listed::from_vec(written),
+        logs: Listed::from_vec(logs),
+        harvests: Listed::from_vec(harvests),
         rest,
     })
 }

@@ -9,6 +9,8 @@ mod driving;
 mod finish;
 mod first;
 mod footprint;
+mod logs;
+mod lowering;
 mod machine;
 mod opening;
 mod playing;
@@ -22,8 +24,9 @@ mod turns;
 mod written;
 
 pub use driving::drive;
+pub use lowering::steps_lower_the_work;
 pub use vub_model::{
-    Count, DeviceCall, DriveFault, GivenRegion, GivenRing, Guest, Info, Label, Object, Run, Setup,
-    SetupFault, Span, Stop, StopCause, Take, VringEpollError, Why,
+    Count, DeviceCall, DriveFault, GivenRegion, GivenRing, Guest, Harvested, Info, Label, LogBytes,
+    Object, Run, Setup, SetupFault, Span, Stop, StopCause, Take, VringEpollError, Why,
 };
 pub use vub_proto::{Answer, Request, Used};

@@ -9,7 +9,7 @@ use vub_vring::Store;
 /// The parties with what they share, but for the service and the lists of a set-up.
 #[derive(Drop)]
 pub(crate) struct Machine {
-    pub store: Store<()>,
+    pub store: Store,
     /// The session of control.
     pub handler: VhostUserHandler,
     /// What is left of the request at hand.

@@ -15,6 +15,7 @@ use crate::records::Records;
 use crate::session::{open_half, open_session};
 use std::alloc::Global;
 use vub_base::OutOfMemory;
+use vub_log::PlainLog;
 use vub_loop::VringEpollHandler;
 use vub_mem::GuestMemory;
 use vub_model::{Constants, DriveFault, Setup};
@@ -49,12 +50,13 @@ fn open_machine(
     alloc: Global,
     setup: &Setup,
     constants: &Constants,
-    memory: GuestMemory<()>,
+    memory: GuestMemory<PlainLog>,
 ) -> Result<Machine, OutOfMemory>
     requires numbers { length setup.now.objects + length constants.now.masks < 2 ^ 32 }
     requires valid { fault_of constants.now setup.now ≡ None }
     requires guest { memory.guest
         ≡ record { regions = map given_region setup.now.regions; contents = contents_from 0 setup.now.objects } }
+    requires logs { memory.logs ≡ [] }
     ensures world { IfOk result (λ m. opened_world setup.now m ≡ opening constants.now setup.now (tt {0})) }
     ensures whole { IfOk result IsWhole }
     ensures calls { IfOk result (λ m. m.calls.items ≡ []) }
@@ -80,7 +82,8 @@ fn open_machine(
 /// The machine that a set-up opens for a device with these constants.
 ///
 /// # Errors
-/// The first test that the set-up fails. Want of memory, also where objects and workers together are more than 4294967295.
+/// The first test that the set-up fails. Want of memory, also where objects and workers together are more than
+/// 4294967295.
 pub(crate) fn open(
     alloc: Global,
     setup: &Setup,

@@ -66,7 +66,7 @@ fn turn<D: VhostUserBackendMut, V: Service>(
         (state_by D.VhostUserBackendMut device.old) (state_by D.VhostUserBackendMut device.new) []) }
 {
     match party {
-        0 => Ok(label_of(guest_turn(machine, &*service, setup))),
+        0 => Ok(label_of(guest_turn(machine, &*service, setup)?)),
         1 => control_turn(alloc, machine, device, service, constants, setup),
         _ => {
             let worker = party - 2;

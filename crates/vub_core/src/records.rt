@@ -8,9 +8,10 @@ use crate::footprint::Footprint;
 use crate::written::Written;
 use std::alloc::Global;
 use vub_base::{Bytes, OutOfMemory};
+use vub_log::PlainLog;
 use vub_loop::Finished;
 use vub_mem::GuestMemory;
-use vub_model::{Object, Phase, Play, Take};
+use vub_model::{Harvested, Object, Phase, Play, Take};
 use vub_proto::Used;
 
 /// What a run records of its steps.
@@ -19,6 +20,8 @@ pub(crate) struct Records {
     pub takes: Vec<Take>,
     pub uses: Vec<Used>,
     pub written: Written,
+    /// The words that the guest harvested.
+    pub harvests: Vec<Harvested>,
 }
 
 /// Appends the entry that a Take gave, if it gave one. There is room for it.
@@ -93,7 +96,7 @@ fn left_none(play: &Play, phase: &Phase) -> bool
 /// Flags the bytes that a step wrote, which ended in this phase.
 fn flag(
     written: &mut Written,
-    memory: &GuestMemory<()>,
+    memory: &GuestMemory<PlainLog>,
     footprint: Footprint,
     play: &Play,
     phase: &Phase,
@@ -122,16 +125,18 @@ fn flag(
 }
 
 impl Records {
-    /// Nothing was taken, used or written.
+    /// Nothing was taken, used, written or harvested.
     pub fn new(alloc: Global, objects: &[Object]) -> Result<Records, OutOfMemory>
         ensures takes { IfOk result (λ r. r.takes.items ≡ []) }
         ensures uses { IfOk result (λ r. r.uses.items ≡ []) }
         ensures written { IfOk result (λ r. r.written ≡ map unwritten objects.now) }
+        ensures harvests { IfOk result (λ r. r.harvests.items ≡ []) }
     {
         Ok(Records {
             takes: Vec::new(alloc),
             uses: Vec::new(alloc),
             written: Written::new(alloc, objects)?,
+            harvests: Vec::new(alloc),
         })
     }
 
@@ -144,6 +149,7 @@ impl Records {
         ensures takes { self.new.takes.items ≡ self.old.takes.items }
         ensures uses { self.new.uses.items ≡ self.old.uses.items }
         ensures written { self.new.written ≡ self.old.written }
+        ensures harvests { self.new.harvests ≡ self.old.harvests }
     {
         self.takes.reserve(1)?;
         self.uses.reserve(1)?;
@@ -154,12 +160,12 @@ impl Records {
     /// finished this entry. There is room for a take and a use.
     ///
     /// # Errors
-    /// Want of memory for the request of an entry that was taken, which is known only now. The record of the step is lost
-    /// then.
+    /// Want of memory for the request of an entry that was taken, which is known only now. The record of the step is
+    /// lost then.
     pub fn record(
         &mut self,
         alloc: Global,
-        memory: &GuestMemory<()>,
+        memory: &GuestMemory<PlainLog>,
         footprint: Footprint,
         play: &Play,
         phase: &Phase,
@@ -171,6 +177,7 @@ impl Records {
         ensures err { OnErr result (play.now ≡ Play.Take) }
         ensures written { IsWritten memory.now.guest.regions footprint play.now phase.now finished
             self.old.written self.new.written }
+        ensures harvests { self.new.harvests ≡ self.old.harvests }
     {
         flag(&mut self.written, memory, footprint, play, phase, &finished);
         push_finished(&mut self.uses, finished);

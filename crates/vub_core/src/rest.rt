@@ -63,7 +63,7 @@ fn workers_rest(host: &mut MemHost, workers: &[VringEpollHandler]) -> bool
 }
 
 /// Whether this step has to wait, since an entry of its ring is in flight.
-fn waits(store: &Store<()>, small: &Small) -> bool
+fn waits(store: &Store, small: &Small) -> bool
     ensures { result ≡ waits_now (shared_of store.now (tt {0})) small.now }
 {
     match small {
@@ -80,7 +80,7 @@ fn waits(store: &Store<()>, small: &Small) -> bool
 }
 
 /// Whether control has no step: none is left of the request, or the first has to wait.
-fn control_rests(store: &Store<()>, half: &Half) -> bool
+fn control_rests(store: &Store, half: &Half) -> bool
     ensures { IsTrue result ↔ StandsStill (shared_of store.now (tt {0}))
         (plan_at store.now.memory.guest.regions half.now).steps }
 {

@@ -13,8 +13,7 @@ use vub_mem::Mapping;
 use vub_model::{Constants, GivenRegion, Known, Opened, Session, Setup};
 use vub_open::opened_worker;
 use vub_plan::{Half, Wired};
-use vub_ring::VringState;
-use vub_vring::copy_constants;
+use vub_vring::{VringState, copy_constants};
 
 /// The workers as they are opened behind `count` objects.
 fn opened_workers(

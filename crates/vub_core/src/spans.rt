@@ -7,6 +7,7 @@ ghost use Rattle.vub_core.specs.Spans.{IsSpan};
 use crate::written::Written;
 use std::alloc::Global;
 use vub_base::{Bytes, OutOfMemory};
+use vub_log::PlainLog;
 use vub_mem::GuestMemory;
 use vub_model::{Object, Span};
 
@@ -93,7 +94,7 @@ fn push_content(
     spans: &mut Vec<Span>,
     object: u32,
     flags: &[bool],
-    memory: &GuestMemory<()>,
+    memory: &GuestMemory<PlainLog>,
 ) -> Result<(), OutOfMemory>
     ensures { (all : List (List Bool)) → slice_index_or all object [] ≡ flags.now
         → OnOk result (spans.new.items ≡ spans.old.items ++ spans_in all object 0
@@ -110,7 +111,7 @@ fn push_content(
 pub(crate) fn spans_of(
     alloc: Global,
     written: &Written,
-    memory: &GuestMemory<()>,
+    memory: &GuestMemory<PlainLog>,
     objects: &[Object],
 ) -> Result<Vec<Span>, OutOfMemory>
     requires { length objects.now < 2 ^ 32 }

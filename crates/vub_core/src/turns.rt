@@ -1,15 +1,17 @@
 //! One turn of the guest, and of a worker.
-ghost use Rattle.std.specs.Prelude.{◌≡◌, ◌++◌, [], length, map, IfOk, OnOk, OnErr};
+ghost use Rattle.std.specs.Prelude.{◌≡◌, ◌++◌, [], length, map, drop, IfOk, OnOk, OnErr};
 ghost use Rattle.vub_model.specs.declared.party.Party.{Party};
 ghost use Rattle.vub_model.specs.DeviceCalls.{heard_in, call_at, device_call};
 ghost use Rattle.vub_model.specs.RunOf.{Turn, IsLeast, IsLeastPoll};
-ghost use Rattle.vub_vring.specs.Store.{shared_of};
+ghost use Rattle.vub_vring.specs.Store.{shared_of, from_option};
 ghost use Rattle.vub_loop.specs.Finished.{finished_by};
 ghost use Rattle.vub_loop.specs.Handler.{SameWorker, phase_of};
 ghost use Rattle.vub_open.specs.Hosts.{NeverFails};
 ghost use Rattle.vub_core.specs.DeviceRun.{state_by, telling_by, HasMade};
 ghost use Rattle.vub_core.specs.Machine.{world_of};
 ghost use Rattle.vub_core.specs.Meanings.{meaning_by};
+ghost use Rattle.vub_core.specs.Ready.{NextMayAct};
+ghost use Rattle.vub_core.specs.Recorded.{HasRoom};
 ghost use Rattle.vub_core.specs.Stepped.{play_of, IsTurn, ForHandler};
 ghost use Rattle.vub_core.specs.Whole.{IsWhole};
 
@@ -19,25 +21,45 @@ use crate::machine::Machine;
 use std::alloc::Global;
 use vub_base::OutOfMemory;
 use vub_loop::{Turned, VringEpollHandler};
-use vub_model::{Constants, Play, Setup};
+use vub_model::{Constants, Harvested, Play, Setup};
 use vub_proto::{Service, VhostUserBackendMut};
 use vub_vring::{OwnedParts, Store};
 
-/// The guest does the next action of its list.
-pub(crate) fn guest_turn<V: Service>(machine: &mut Machine, service: &V, setup: &Setup) -> Play
-    requires { IsWhole machine.old }
-    ensures turn { Turn (meaning_by V.Service) (world_of setup.now machine.old service.now) Party.Guest result
-        (world_of setup.now machine.new service.now) }
-    ensures whole { IsWhole machine.new }
-    ensures workers { machine.new.workers ≡ machine.old.workers }
-    ensures calls { machine.new.calls ≡ machine.old.calls }
+/// Appends the word that an action harvested, if it harvested one. There is room for it.
+fn push_harvest(harvests: &mut Vec<Harvested>, harvested: Option<Harvested>)
+    requires { HasRoom harvests.old }
+    ensures { harvests.new.items ≡ harvests.old.items ++ from_option harvested }
+{
+    if let Some(harvested) = harvested {
+        harvests.push(harvested).unwrap();
+    }
+}
+
+/// The guest does the next action of its list. Room for the record of a harvest is made before.
+///
+/// # Errors
+/// Want of memory.
+pub(crate) fn guest_turn<V: Service>(
+    machine: &mut Machine,
+    service: &V,
+    setup: &Setup,
+) -> Result<Play, OutOfMemory>
+    requires whole { IsWhole machine.old }
+    requires acts { NextMayAct machine.old.store.memory.logs (drop machine.old.acted setup.now.guest) }
+    ensures turn { IfOk result (λ l. Turn (meaning_by V.Service)
+        (world_of setup.now machine.old service.now) Party.Guest l (world_of setup.now machine.new service.now)) }
+    ensures whole { OnOk result (IsWhole machine.new) }
+    ensures workers { OnOk result (machine.new.workers ≡ machine.old.workers) }
+    ensures calls { OnOk result (machine.new.calls ≡ machine.old.calls) }
 {
     match setup.guest.as_slice().get(machine.acted) {
-        None => Play::Pass,
+        None => Ok(Play::Pass),
         Some(action) => {
-            machine.store.act::<V>(action);
+            machine.records.harvests.reserve(1)?;
+            let harvested = machine.store.act::<V>(action);
+            push_harvest(&mut machine.records.harvests, harvested);
             machine.acted += 1;
-            Play::Guest
+            Ok(Play::Guest)
         }
     }
 }
@@ -58,7 +80,7 @@ fn play_of(turned: Turned) -> Play
 /// Want of memory leaves service and device as they were.
 fn play_worker<'a, D: VhostUserBackendMut, V: Service>(
     alloc: Global,
-    store: &'a mut Store<()>,
+    store: &'a mut Store,
     device: &'a mut D,
     service: &'a mut V,
     constants: &'a Constants,

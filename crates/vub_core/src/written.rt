@@ -12,6 +12,7 @@ use crate::footprint::{EventPlace, UsePlace};
 use std::alloc::Global;
 use std::marker::Model;
 use vub_base::OutOfMemory;
+use vub_log::PlainLog;
 use vub_mem::GuestMemory;
 use vub_model::Object;
 use vub_queue::{Chain, Segment, split};
@@ -36,7 +37,7 @@ fn flags_of(alloc: Global, object: &Object) -> Result<Vec<bool>, OutOfMemory>
 {
     let flags = match object {
         Object::Content(bytes) => vec![in alloc; false; bytes.len()]?,
-        Object::Event { .. } => Vec::new(alloc),
+        Object::Event { .. } | Object::Log { .. } => Vec::new(alloc),
     };
     Ok(flags)
 }
@@ -88,7 +89,7 @@ impl Written {
     }
 
     /// Flags the bytes that a write to this range of guest addresses changes, if it is covered.
-    pub fn flag_range(&mut self, memory: &GuestMemory<()>, addr: u64, len: u64)
+    pub fn flag_range(&mut self, memory: &GuestMemory<PlainLog>, addr: u64, len: u64)
         ensures { covers memory.now.guest.regions addr len ≡ true
             → self.new ≡ with_spots self.old (spots_of memory.now.guest.regions addr len) }
     {
@@ -108,7 +109,7 @@ impl Written {
     }
 
     /// Flags the bytes of the segments that a reply fills, if they are covered.
-    pub fn flag_room(&mut self, memory: &GuestMemory<()>, segments: &[Segment], reply: &[u8])
+    pub fn flag_room(&mut self, memory: &GuestMemory<PlainLog>, segments: &[Segment], reply: &[u8])
         ensures { room_covers memory.now.guest.regions segments.now reply.now ≡ true
             → self.new ≡ with_spots self.old (reply_spots memory.now.guest.regions segments.now reply.now) }
     {
@@ -121,7 +122,7 @@ impl Written {
     }
 
     /// Flags `len` bytes that lie `offset` behind an address, if they are covered.
-    pub fn flag_behind(&mut self, memory: &GuestMemory<()>, base: u64, offset: u64, len: u64)
+    pub fn flag_behind(&mut self, memory: &GuestMemory<PlainLog>, base: u64, offset: u64, len: u64)
         requires { 0 < len }
         ensures { covers memory.now.guest.regions (base + offset) len ≡ true
             → self.new ≡ with_spots self.old (spots_of memory.now.guest.regions (base + offset) len) }
@@ -135,7 +136,7 @@ impl Written {
     /// a ring that lies at `place` (virtio 1.2, section 2.7.8). Where the use would be refused, nothing is said.
     pub fn flag_use(
         &mut self,
-        memory: &GuestMemory<()>,
+        memory: &GuestMemory<PlainLog>,
         place: UsePlace,
         chain: &Chain,
         reply: &[u8],
@@ -150,7 +151,7 @@ impl Written {
     }
 
     /// Flags the word avail_event of a ring that lies at `place` (virtio 1.2, section 2.7.10), if it is covered.
-    pub fn flag_event(&mut self, memory: &GuestMemory<()>, place: EventPlace)
+    pub fn flag_event(&mut self, memory: &GuestMemory<PlainLog>, place: EventPlace)
         ensures { (r : Ring) → IsEventPlace r place → covers memory.now.guest.regions (avail_event_at r) 2 ≡ true
             → self.new ≡ with_spots self.old (spots_of memory.now.guest.regions (avail_event_at r) 2) }
     {

@@ -6,7 +6,7 @@ use Rattle.vub_event.specs.declared.member.Member.{Member}
 use Rattle.vub_event.specs.declared.ready.Ready.{Ready}
 use Rattle.vub_event.specs.Counter.{reported_bits}
 use Rattle.vub_event.specs.HostTable.{HostTable, members_at, ready_members, report_of, reports_of}
-use Rattle.vub_event.specs.InterestList.{AllAbove, IsOrdered}
+use Rattle.vub_event.specs.InterestList.{IsOrdered}
 use Rattle.vub_event.specs.Orderly.{IsByObject, IsOrderly}
 use Rattle.vub_event.proofs.Reporting.{reports-above}
 use Rattle.std.proofs.Common.{get_or, ◌≡◌, refl, sym, subst}
@@ -20,7 +20,7 @@ one-more P m (Some event) rest without with_it =
       | false ↦ with_it (record { object = m.object; events = reported_bits event m.set.0; token = m.token }) refl
     ]
 
-by-object : (objects : List (Option Event)) (ms : List Member) → IsOrdered ms → IsByObject (reports_of objects ms)
+pub by-object : (objects : List (Option Event)) (ms : List Member) → IsOrdered ms → IsByObject (reports_of objects ms)
 by-object objects [] ordered = tt
 by-object objects (m ∷ ms) ordered =
     one-more IsByObject m (get_or objects m.object None) (reports_of objects ms) (by-object objects ms ordered.1)

@@ -4,9 +4,11 @@ pub mod CounterLaws
 pub mod Mapping
 pub mod Orderly
 pub mod Placing
+pub mod Readying
 pub mod Refusing
 pub mod Reporting
 pub mod Searching
 pub mod Striking
 pub mod Telling
 pub mod WriteLaws
+pub mod Words

@@ -1,5 +1,5 @@
 -- Each call of a host leaves an orderly table orderly.
-use Rattle.std.proofs.Common.{ℕ, zero, suc, ◌≡◌, ◌+◌, ◌-◌, ◌^◌, ◌<◌, ◌≤◌, ◌⊎◌, inl, inr, ◌&&◌, ◌||◌, List, [], ◌∷◌, ◌++◌, length, get_or, set, map, Bool, true, false, not, if◌then◌else◌, cond, Option, Some, None, is_some, nat_lt, eqb, ltb, Result, Ok, Err, sym, ◌∙◌, ap, subst, refl, arith}
+use Rattle.std.proofs.Common.{ℕ, zero, suc, ◌≡◌, ◌+◌, ◌-◌, ◌<◌, ◌≤◌, ◌⊎◌, inl, inr, ◌||◌, List, [], ◌∷◌, ◌++◌, get_or, set, map, Bool, true, false, not, if◌then◌else◌, Option, Some, None, is_some, nat_lt, eqb, ltb, Result, Ok, Err, sym, ◌∙◌, ap, subst, refl, arith}
 use Rattle.std.proofs.lemmas.Bool.{cases_Bool, eqb-true, eqb-false, ltb-true, ltb-false, cond-true, cond-false}
 use Rattle.std.proofs.lemmas.Bool.Decides.{nat_tests}
 use Rattle.std.proofs.lemmas.List.{get_or-set_other}
@@ -139,7 +139,7 @@ member-with (m ∷ ms) n o is =
       ]
     ]
 
-member-changed : (ms : List Member) (n : Member) (o : ℕ) → is_some (member_of (with_changed ms n) o) ≡ true → is_some (member_of ms o) ≡ true
+pub member-changed : (ms : List Member) (n : Member) (o : ℕ) → is_some (member_of (with_changed ms n) o) ≡ true → is_some (member_of ms o) ≡ true
 member-changed [] n o is = is
 member-changed (m ∷ ms) n o is =
     elim (here-or-later (if eqb m.object n.object then n else m) (with_changed ms n) o is) [
@@ -147,7 +147,7 @@ member-changed (m ∷ ms) n o is =
       | inr later ↦ member-later m ms o (member-changed ms n o later)
     ]
 
-member-without : (ms : List Member) (o q : ℕ) → is_some (member_of (without_member ms o) q) ≡ true → (q ≡ o → ⊥) × (is_some (member_of ms q) ≡ true)
+pub member-without : (ms : List Member) (o q : ℕ) → is_some (member_of (without_member ms o) q) ≡ true → (q ≡ o → ⊥) × (is_some (member_of ms q) ≡ true)
 member-without [] o q is = absurd (let h : ⊥ = cc in h)
 member-without (m ∷ ms) o q is =
     elim (cases_Bool (eqb m.object o)) [

@@ -45,7 +45,7 @@ least-other r rest other zero each lt is = omega (arith, ap (λ (x : Ready). x.o
 least-other r rest other (suc k) each lt is =
     omega (arith, All-from_recursion _ rest each k other (omega arith), ap (λ (x : Ready). x.object) is)
 
-least-head : (r : Ready) (rest : List Ready) → Each (λ (x : Ready). r.object < x.object) rest → IsLeastOf (r ∷ rest) (Some r)
+pub least-head : (r : Ready) (rest : List Ready) → Each (λ (x : Ready). r.object < x.object) rest → IsLeastOf (r ∷ rest) (Some r)
 least-head r rest each = ((zero, omega arith, refl), λ other h. least-other r rest other h.0 each h.1 h.2)
 
 -- the report for the first ready member is the least

@@ -1,3 +1,4 @@
+pub mod BitWords
 pub mod Counter
 pub mod Errors
 pub mod Faults
@@ -8,3 +9,4 @@ pub mod Laws
 pub mod Orderly
 pub mod Place
 pub mod Plan
+pub mod ReadyWords

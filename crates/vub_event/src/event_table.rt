@@ -1,5 +1,7 @@
-ghost use Rattle.std.specs.Prelude.{◌≡◌, ◌<◌, ◌≤◌, ◌∷◌, [], is_some, MatchResult};
-ghost use Rattle.vub_event.specs.HostTable.{empty_table, event_at, has_event, has_list, member_at, members_at, is_listed, with_event, ready_members, IsLeastOf};
+ghost use Rattle.std.specs.Prelude.{◌≡◌, ◌+◌, ◌/◌, ◌<◌, ◌≤◌, ◌∷◌, [], true, not, is_some, length, map, if◌then◌else◌, IfOk, OnErr, MatchResult};
+ghost use Rattle.vub_event.specs.HostTable.{empty_table, event_at, has_event, has_list, member_at, members_at, is_listed, with_event, with_members, ready_members, IsLeastOf};
+ghost use Rattle.vub_event.specs.InterestList.{with_member, with_changed, without_member};
+ghost use Rattle.vub_event.specs.ReadyWords.{IsReadyBut, IsReadyList, AreReadyBut, AreReady};
 ghost use Rattle.vub_event.specs.HostCalls.{has_both, is_claimed, consume_after, CreateEventCall, CreateListCall, SignalCall, ConsumeCall, AddCall, ModifyCall, DeleteCall, ListenCall, UnlistenCall, ConsumeAsCall, ReadyCall, FirstReadyCall, ReadyManyCall, ClaimCall, release_after, hang_up_after, close_after};
 ghost use Rattle.vub_event.specs.Errors.{RefusesBy};
 
@@ -9,14 +11,18 @@ use crate::event_set::EventSet;
 use crate::member::Member;
 use crate::members::Members;
 use crate::ready::Ready;
+use crate::ready_words::ReadyWords;
 use std::alloc::Global;
 use std::marker::Model;
+use std::sync::ledger::Ledger;
+use vub_base::{OutOfMemory, Steps};
 
-/// The objects and the interest lists of a host. A contract sees the host table.
+/// The objects and the interest lists of a host, with the ready members of each list. A contract sees the host table.
 #[derive(Debug, Drop)]
 pub struct EventTable {
     objects: Vec<Option<Event>>,
     lists: Vec<Members>,
+    ready: Vec<ReadyWords>,
 }
 
 impl Model for EventTable {
@@ -24,7 +30,11 @@ impl Model for EventTable {
 
     ghost Value = { HostTable };
 
+    ghost use Rattle.vub_event.specs.ReadyWords.{AreReady};
+
     ghost view = { λ t. record { objects = t.objects.items; lists = t.lists.items } };
+
+    ghost invariant = { λ t. AreReady t.objects.items t.lists.items t.ready.items };
 }
 
 /// How many objects, or lists, are ever made.
@@ -47,6 +57,34 @@ fn next_number(made: usize) -> Result<u32, HostError>
     Ok(made as u32)
 }
 
+/// Writes into the words of a list whether the member for this object is ready.
+fn refresh(objects: &[Option<Event>], members: &Members, words: &mut ReadyWords, object: u32)
+    requires { IsReadyBut object objects.now members.now words.old }
+    ensures { IsReadyList objects.now members.now words.new }
+{
+    let is_ready = members.report(objects, object).is_some();
+    words.put(object, is_ready);
+}
+
+/// Writes into the words of each list whether the member for this object is ready.
+fn refresh_all(objects: &[Option<Event>], lists: &[Members], ready: &mut [ReadyWords], object: u32)
+    requires { AreReadyBut object objects.now lists.now ready.old }
+    ensures { AreReady objects.now lists.now ready.new }
+{
+    for i in 0..lists.len() {
+        refresh(objects, &lists[i], &mut ready[i], object);
+    }
+}
+
+/// Takes this object off each list.
+fn take_off(lists: &mut [Members], object: u32)
+    ensures { lists.new ≡ map (λ members. without_member members object) lists.old }
+{
+    for members in lists.iter_mut() {
+        let _removed = members.remove(object);
+    }
+}
+
 impl EventTable {
     /// No object and no list. Takes no memory.
     pub fn new(alloc: Global) -> EventTable
@@ -55,6 +93,7 @@ impl EventTable {
         EventTable {
             objects: Vec::new(alloc),
             lists: Vec::new(alloc),
+            ready: Vec::new(alloc),
         }
     }
 
@@ -84,7 +123,73 @@ impl EventTable {
     {
         if (object as usize) < self.objects.len() {
             self.objects[object as usize] = event;
+            refresh_all(&self.objects, &self.lists, &mut self.ready, object);
         }
+    }
+
+    /// Adds a member to this list. False exactly where its object has one, which then stays.
+    ///
+    /// # Errors
+    /// Want of memory leaves the table as it was.
+    fn enlist(&mut self, list: u32, member: Member) -> Result<bool, OutOfMemory>
+        requires { has_both self.old list member.object ≡ true }
+        ensures answer { IfOk result (λ added. added ≡ not (is_some (member_at self.old list member.object))) }
+        ensures after { IfOk result (λ added. self.new ≡ (if added
+            then with_members self.old list (with_member (members_at self.old list) member) else self.old)) }
+        ensures err { OnErr result (self.new ≡ self.old) }
+    {
+        let place = list as usize;
+        self.ready[place].make_room(member.object)?;
+        if !self.lists[place].add(member)? {
+            return Ok(false);
+        }
+        refresh(
+            &self.objects,
+            &self.lists[place],
+            &mut self.ready[place],
+            member.object,
+        );
+        Ok(true)
+    }
+
+    /// Puts this member in the place of the one of this list for its object. False exactly where there is none.
+    fn amend(&mut self, list: u32, member: Member) -> bool
+        requires { has_list self.old list ≡ true }
+        ensures answer { result ≡ is_some (member_at self.old list member.object) }
+        ensures after { self.new ≡ (if result
+            then with_members self.old list (with_changed (members_at self.old list) member) else self.old) }
+    {
+        let place = list as usize;
+        if !self.lists[place].change(member) {
+            return false;
+        }
+        refresh(
+            &self.objects,
+            &self.lists[place],
+            &mut self.ready[place],
+            member.object,
+        );
+        true
+    }
+
+    /// Takes the member for this object off this list. False exactly where there is none.
+    fn strike(&mut self, list: u32, object: u32) -> bool
+        requires { has_list self.old list ≡ true }
+        ensures answer { result ≡ is_some (member_at self.old list object) }
+        ensures after { self.new ≡ (if result
+            then with_members self.old list (without_member (members_at self.old list) object) else self.old) }
+    {
+        let place = list as usize;
+        if !self.lists[place].remove(object) {
+            return false;
+        }
+        refresh(
+            &self.objects,
+            &self.lists[place],
+            &mut self.ready[place],
+            object,
+        );
+        true
     }
 
     /// Whether there is a list of this number.
@@ -161,8 +266,14 @@ impl EventTable {
         ensures table { CreateListCall result self.old self.new }
     {
         let number = next_number(self.lists.len())?;
-        self.lists.push(Members::new(alloc))?;
-        Ok(number)
+        self.ready.push(ReadyWords::new(alloc))?;
+        match self.lists.push(Members::new(alloc)) {
+            Ok(()) => Ok(number),
+            Err(_) => {
+                let _dropped = self.ready.pop();
+                Err(HostError::OutOfMemory)
+            }
+        }
     }
 
     /// As [`Host::signal`](crate::Host::signal).
@@ -216,7 +327,7 @@ impl EventTable {
         if member.set.is_refused() {
             return Err(HostError::EINVAL);
         }
-        if !self.lists[list as usize].add(member)? {
+        if !self.enlist(list, member)? {
             return Err(HostError::EEXIST);
         }
         Ok(())
@@ -234,7 +345,7 @@ impl EventTable {
         if member.set.is_refused() {
             return Err(HostError::EINVAL);
         }
-        if !self.lists[list as usize].change(member) {
+        if !self.amend(list, member) {
             return Err(HostError::ENOENT);
         }
         Ok(())
@@ -249,7 +360,7 @@ impl EventTable {
         if !self.has_both(list, object) {
             return Err(HostError::EBADF);
         }
-        if !self.lists[list as usize].remove(object) {
+        if !self.strike(list, object) {
             return Err(HostError::ENOENT);
         }
         Ok(())
@@ -268,7 +379,7 @@ impl EventTable {
             return Err(HostError::EEXIST);
         }
         let set = EventSet::IN;
-        let _added = self.lists[list as usize].add(Member { object, set, token })?;
+        let _added = self.enlist(list, Member { object, set, token })?;
         Ok(())
     }
 
@@ -283,7 +394,7 @@ impl EventTable {
         }
         match self.member(list, object) {
             Some(member) if member.token > above => {
-                let _removed = self.lists[list as usize].remove(object);
+                let _removed = self.strike(list, object);
                 Ok(())
             }
             _ => Err(HostError::ENOENT),
@@ -308,15 +419,22 @@ impl EventTable {
         }
     }
 
-    /// As [`Host::ready`](crate::Host::ready).
-    pub fn ready(&self, list: u32) -> Result<Option<Ready>, HostError>
+    /// As [`Host::ready`](crate::Host::ready). A step is a look at a word.
+    pub fn ready_counted<K: Ledger>(
+        &self,
+        list: u32,
+        steps: &mut Steps<K>,
+    ) -> Result<Option<Ready>, HostError>
         ensures refusals { RefusesBy result (HostError.EBADF ∷ []) }
         ensures table { FirstReadyCall list result self.now self.now }
+        ensures steps { steps.new ≤ steps.old + length self.now.objects / 4096 + 2 }
     {
-        match self.lists.get(list as usize) {
-            Some(members) => Ok(members.first_ready(&self.objects)),
-            None => Err(HostError::EBADF),
+        let place = list as usize;
+        if place >= self.lists.len() {
+            return Err(HostError::EBADF);
         }
+        let first = self.lists[place].first_ready(&self.objects, &self.ready[place], steps);
+        Ok(first)
     }
 
     /// As [`Host::ready_many`](crate::Host::ready_many).
@@ -378,9 +496,10 @@ impl EventTable {
     pub fn close(&mut self, object: u32)
         ensures { self.new ≡ close_after self.old object }
     {
-        self.put(object, None);
-        for members in self.lists.iter_mut() {
-            let _removed = members.remove(object);
+        if (object as usize) < self.objects.len() {
+            self.objects[object as usize] = None;
         }
+        take_off(&mut self.lists, object);
+        refresh_all(&self.objects, &self.lists, &mut self.ready, object);
     }
 }

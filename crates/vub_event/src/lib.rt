@@ -1,6 +1,7 @@
 //! Event objects and interest lists: the trait `Host` and the table in memory that implements it, `MemHost`.
 #![tactic(auto)]
 
+mod bits;
 mod error;
 mod event;
 mod event_set;
@@ -12,6 +13,7 @@ mod mem_host;
 mod member;
 mod members;
 mod ready;
+mod ready_words;
 
 pub use error::HostError;
 pub use event::Event;

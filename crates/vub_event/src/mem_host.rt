@@ -1,5 +1,5 @@
 ghost use Rattle.std.proofs.Props.{props};
-ghost use Rattle.std.specs.Prelude.{◌≡◌, ℕ, [], ◌∷◌, Some, IfOk, IsOk, slice_get};
+ghost use Rattle.std.specs.Prelude.{◌≡◌, ◌+◌, ◌/◌, ◌<◌, ◌≤◌, ℕ, length, [], ◌∷◌, Some, IfOk, IsOk, slice_get};
 ghost use Rattle.vub_base.specs.Told.{Told};
 ghost use Rattle.vub_event.specs.Errors.{RefusesBy};
 ghost use Rattle.vub_event.specs.Faults.{CountsFaults};
@@ -17,7 +17,9 @@ use crate::host::Host;
 use crate::member::Member;
 use crate::ready::Ready;
 use std::alloc::Global;
-use vub_base::OutOfMemory;
+use std::marker::Brand;
+use std::sync::ledger::{Blank, Ledger};
+use vub_base::{OutOfMemory, Steps};
 
 /// A host in memory. It tells its table, and of several ready members it takes the one with the least object number.
 #[derive(Debug, Drop)]
@@ -70,6 +72,49 @@ impl MemHost {
     {
         self.table.members(list)
     }
+
+    /// As [`Host::ready`], on a counter of steps. A step is a look at a word of 64 objects, or of 64 such words.
+    ///
+    /// # Errors
+    /// As [`Host::ready`].
+    pub fn ready_counted<K: Ledger>(
+        &mut self,
+        list: u32,
+        steps: &mut Steps<K>,
+    ) -> Result<Option<Ready>, HostError>
+        ensures faults { CountsFaults self.old.plan.faults self.new.plan.faults (self.old.plan.calls.items ≡ [])
+            (self.new.plan.calls.items ≡ []) result }
+        ensures refusals { RefusesBy result (HostError.Failed ∷ HostError.EBADF ∷ []) }
+        ensures table { ReadyCall list result self.old.table self.new.table }
+        ensures least { FirstReadyCall list result self.old.table self.new.table }
+        ensures plan { GoesByPlan self.old.plan self.new.plan result }
+        ensures steps { steps.new ≤ steps.old + length self.old.table.objects / 4096 + 2 }
+    {
+        if self.plan.strikes() {
+            return Err(HostError::Failed);
+        }
+        self.table.ready_counted(list, steps)
+    }
+}
+
+/// As [`Host::ready`], on a counter of steps that nobody reads.
+fn ready_with<K: Ledger>(
+    host: &mut MemHost,
+    list: u32,
+    blank: Blank,
+) -> Result<Option<Ready>, HostError>
+    requires name { blank.name ≡ K.name }
+    requires parts { blank.parts ≡ K.parts }
+    requires some { 0 < K.parts }
+    ensures faults { CountsFaults host.old.plan.faults host.new.plan.faults (host.old.plan.calls.items ≡ [])
+        (host.new.plan.calls.items ≡ []) result }
+    ensures refusals { RefusesBy result (HostError.Failed ∷ HostError.EBADF ∷ []) }
+    ensures table { ReadyCall list result host.old.table host.new.table }
+    ensures least { FirstReadyCall list result host.old.table host.new.table }
+    ensures plan { GoesByPlan host.old.plan host.new.plan result }
+{
+    let mut steps = Steps::<K>::new(blank);
+    host.ready_counted(list, &mut steps)
 }
 
 impl Host for MemHost {
@@ -238,10 +283,7 @@ impl Host for MemHost {
         ensures least { FirstReadyCall list result self.old.table self.new.table }
         ensures plan { GoesByPlan self.old.plan self.new.plan result }
     {
-        if self.plan.strikes() {
-            return Err(HostError::Failed);
-        }
-        self.table.ready(list)
+        ready_with::<Brand>(self, list, Blank::new(1))
     }
 
     fn ready_many(&mut self, alloc: Global, list: u32, most: usize) -> Result<Vec<Ready>, HostError>

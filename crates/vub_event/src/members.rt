@@ -1,14 +1,17 @@
-ghost use Rattle.std.specs.Prelude.{◌≡◌, [], ◌∷◌, length, not, is_some, IfOk, OnErr, if◌then◌else◌, take, slice_get, slice_index_or, None};
+ghost use Rattle.std.specs.Prelude.{◌≡◌, [], ◌∷◌, length, not, is_some, IfOk, OnErr, if◌then◌else◌, take, slice_get, slice_index_or, ◌+◌, ◌/◌, ◌≤◌, None};
 ghost use Rattle.vub_event.specs.HostTable.{report_of, reports_of, IsLeastOf};
 ghost use Rattle.vub_event.specs.InterestList.{IsOrdered, member_of, with_member, with_changed, without_member};
 ghost use Rattle.vub_event.specs.Place.{MeetsAt};
+ghost use Rattle.vub_event.specs.ReadyWords.{report_for, IsReadyList};
 
 use crate::event::Event;
 use crate::member::Member;
 use crate::ready::Ready;
+use crate::ready_words::ReadyWords;
 use std::alloc::Global;
 use std::marker::Model;
-use vub_base::OutOfMemory;
+use std::sync::ledger::Ledger;
+use vub_base::{OutOfMemory, Steps};
 
 /// The members of an interest list, in order of their objects' numbers. A contract sees their list.
 #[derive(Debug, Drop)]
@@ -115,18 +118,35 @@ impl Members {
         }
     }
 
-    /// The report for the first member that is ready.
-    pub fn first_ready(&self, objects: &[Option<Event>]) -> Option<Ready>
+    /// The report for the member for this object, if there is one and it is ready.
+    pub fn report(&self, objects: &[Option<Event>], object: u32) -> Option<Ready>
+        ensures { result ≡ report_for objects.now (member_of self.now object) }
+    {
+        match self.get(object) {
+            Some(member) => report(objects, member),
+            None => None,
+        }
+    }
+
+    /// The report for the first member that is ready, whose words these are. A step is a look at a word.
+    pub fn first_ready<K: Ledger>(
+        &self,
+        objects: &[Option<Event>],
+        ready: &ReadyWords,
+        steps: &mut Steps<K>,
+    ) -> Option<Ready>
+        requires { IsReadyList objects.now self.now ready.now }
         ensures first { result ≡ slice_get (reports_of objects.now self.now) 0 }
         ensures least { IsLeastOf (reports_of objects.now self.now) result }
+        ensures steps { steps.new ≤ steps.old + (length ready.now + 63) / 64 + 1 }
     {
-        let members = self.members.as_slice();
-        for member in members {
-            if let Some(ready) = report(objects, *member) {
-                return Some(ready);
-            }
+        if self.members.is_empty() {
+            return None;
         }
-        None
+        match ready.first(steps) {
+            Some(object) => self.report(objects, object),
+            None => None,
+        }
     }
 
     /// The reports for the first `most` members that are ready.

@@ -1,9 +1,14 @@
+ghost use Rattle.std.specs.Prelude.{◌≡◌, ◌+◌, ◌<◌, ◌≤◌};
+
 use crate::laws::{add_then_delete, add_twice, write_then_read, writes_then_read};
-use crate::{EventSet, Host, HostError, MemHost};
+use crate::{EventSet, Host, HostError, MemHost, Ready};
 use bitflags::Flags;
 use std::alloc::Global;
+use std::marker::Brand;
 use std::process::Abort;
+use std::sync::ledger::{Blank, Ledger};
 use std::test::Fail;
+use vub_base::Steps;
 
 /// What a call answered, as its number; 0 for Ok.
 fn number_of<T: Drop>(answer: Result<T, HostError>) -> u8 {
@@ -226,5 +231,81 @@ fn refusals_have_numbers_and_texts(rt: HostRuntime) -> Result<(), Fail> {
         let shown = format!(in alloc; "{refusal}")?;
         assert_eq!(rt; shown.as_str(), text);
     }
+    Ok(())
+}
+
+/// Makes one more object, which is ready in the list, and asks for a ready one where it is number 9999. Of 10000 objects
+/// this costs at most four steps.
+#[tactic(auto, unfolding(crate::specs::HostCalls::create_event_after, crate::specs::HostCalls::add_after, crate::specs::HostCalls::signal_after))]
+fn ready_of_ten_thousand<K: Ledger>(
+    alloc: Global,
+    host: &mut MemHost,
+    list: u32,
+    steps: &mut Steps<K>,
+) -> Result<Option<Ready>, HostError>
+    ensures { steps.new ≤ steps.old + 4 }
+{
+    let object = host.create_event(alloc, 0)?;
+    if object != 9999 {
+        return Ok(None);
+    }
+    host.add(alloc, list, object, EventSet::IN, 7)?;
+    host.signal(object, 1)?;
+    host.ready_counted(list, steps)
+}
+
+fn ready_with<K: Ledger>(
+    alloc: Global,
+    host: &mut MemHost,
+    list: u32,
+    blank: Blank,
+) -> Result<Option<Ready>, HostError>
+    requires name { blank.name ≡ K.name }
+    requires parts { blank.parts ≡ K.parts }
+    requires some { 0 < K.parts }
+{
+    let mut steps = Steps::<K>::new(blank);
+    ready_of_ten_thousand(alloc, host, list, &mut steps)
+}
+
+fn ready_last(alloc: Global, host: &mut MemHost, list: u32) -> Result<Option<Ready>, HostError> {
+    ready_with::<Brand>(alloc, host, list, Blank::new(1))
+}
+
+/// Makes 9999 objects, of which each hundredth is a member of the list, and none is ready.
+fn make_many(alloc: Global, host: &mut MemHost, list: u32) -> Result<(), HostError> {
+    for _made in 0..9999u32 {
+        let object = host.create_event(alloc, 0)?;
+        if object % 100 == 0 {
+            host.add(alloc, list, object, EventSet::IN, 0)?;
+        }
+    }
+    Ok(())
+}
+
+#[test]
+fn the_last_of_ten_thousand_objects_is_found(rt: HostRuntime) -> Result<(), Fail> {
+    let alloc = rt.alloc();
+    let mut host = MemHost::new(alloc);
+    let list = host.create_list(alloc)?;
+    make_many(alloc, &mut host, list)?;
+    assert_eq!(rt; host.ready(list)?, None);
+    let last = Ready {
+        object: 9999,
+        events: 1,
+        token: 7,
+    };
+    assert_eq!(rt; ready_last(alloc, &mut host, list)?, Some(last));
+    host.signal(6400, 1)?;
+    let earlier = Ready {
+        object: 6400,
+        events: 1,
+        token: 0,
+    };
+    assert_eq!(rt; host.ready(list)?, Some(earlier));
+    host.consume(6400)?;
+    assert_eq!(rt; host.ready(list)?, Some(last));
+    host.close(9999);
+    assert_eq!(rt; host.ready(list)?, None);
     Ok(())
 }

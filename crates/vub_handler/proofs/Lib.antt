@@ -1,4 +1,6 @@
+pub mod Exits
 pub mod HostRows
+pub mod Opening
 pub mod PartRows
 pub mod PlayMoves
 pub mod PlayRows

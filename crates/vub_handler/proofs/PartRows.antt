@@ -15,9 +15,9 @@ use Rattle.vub_model.specs.declared.ring_op.RingOp.TheVariants as op
 use Rattle.vub_model.specs.declared.ring_op.RingSaid.{RingSaid}
 use Rattle.vub_model.specs.declared.ring_op.RingSaid.TheVariants as ring_said
 use Rattle.vub_model.specs.declared.small.Small.{Small}
-use Rattle.vub_model.specs.declared.small.Small.TheVariants.{Remove, Insert, Set, Info, Table, Device}
+use Rattle.vub_model.specs.declared.small.Small.TheVariants.{Remove, Insert, Set, Info, Table, Log, Device}
 use Rattle.vub_model.specs.declared.small.TableOp.{TableOp}
-use Rattle.vub_model.specs.Control.{IsOutcome, used_index_covers, regions_unless, after_refusal, after_outcome, told, waits_now, next_used_at}
+use Rattle.vub_model.specs.Control.{IsOutcome, used_index_covers, regions_unless, after_refusal, after_log_refusal, logged_unless, after_outcome, told, waits_now, next_used_at}
 use Rattle.vub_model.specs.DeviceCalls.{Call, Telling, is_refused, moved_by}
 use Rattle.vub_model.specs.DeviceCalls as device_calls
 use Rattle.vub_model.specs.Plans.{Plan, regions_after}
@@ -29,14 +29,19 @@ use Rattle.vub_ring.specs.declared.ops.PendSaid.{PendSaid}
 use Rattle.vub_ring.specs.declared.ops.PendSaid.TheVariants as pend_said
 use Rattle.vub_ring.specs.declared.ops.TableRingSaid.{TableRingSaid}
 use Rattle.vub_ring.specs.declared.ops.TableRingSaid.TheVariants as table_ring_said
+use Rattle.vub_log.specs.Plain.{Plain}
+use Rattle.vub_mem.specs.Memory.{Memory}
+use Rattle.vub_mem.specs.declared.errors.LogError.{LogError}
+use Rattle.vub_vring.specs.declared.ops.LogSaid.{LogSaid}
+use Rattle.vub_vring.specs.declared.ops.LogSaid.TheVariants as log_said
 use Rattle.vub_vring.specs.declared.ops.TableSaid.{TableSaid}
 use Rattle.vub_vring.specs.declared.ops.TableSaid.TheVariants as change
-use Rattle.vub_vring.specs.Calls.{RingCall, InfoCall, PendCall, TableCall, DeviceCall, IsCounted}
+use Rattle.vub_vring.specs.Calls.{RingCall, InfoCall, PendCall, TableCall, LogCall, DeviceCall, IsCounted}
 use Rattle.vub_vring.specs.PartsState.{PartsState, HasFailed}
 use Rattle.vub_plan.specs.declared.half.Turn.{Turn}
 use Rattle.vub_plan.specs.declared.half.Turn.TheVariants as turn
 use Rattle.vub_plan.specs.Halves.{turned}
-use Rattle.vub_handler.specs.Acting.{info_turn, table_turn, device_turn, IsRowOf, IsRow, IsCaused, HasRefused, RowBy, IsMade, Acts, called, CallsBy}
+use Rattle.vub_handler.specs.Acting.{info_turn, table_turn, log_turn, device_turn, IsRowOf, IsRow, IsCaused, HasRefused, RowBy, IsMade, Acts, called, CallsBy}
 use Rattle.vub_handler.specs.declared.acted.Acted.TheVariants.{Made, Waits}
 use Rattle.vub_handler.proofs.Telling.{told-map, by-row}
 
@@ -146,6 +151,25 @@ module _ {V : Type 0} (g : Wiring) (a b : Shared V) where
         rest = λ p. ap (λ (r : Option MemError). after_refusal r p) (sym call.0.0);
       }
 
+  abbrev given_log : Option LogError → ℕ → ℕ → Shared V
+  given_log refusal object offset = record a { guest = record a.guest { regions = logged_unless refusal object offset a.guest.regions } }
+
+  pub log-row : (s : LogSaid) (object offset size : ℕ) → LogCall object offset size g.tracks s a b → IsRowOf g (Log object offset size) outcome.Done (log_turn s) a b
+  log-row log_said.Done object offset size call =
+      record {
+        free = refl;
+        says = refl;
+        shared = call.1 ∙ ap (λ (m : Memory Plain). record a { guest = m.guest }) call.0.1 ∙ ap (λ (r : Option LogError). given_log r object offset) (sym call.0.0);
+        rest = λ p. ap (λ (r : Option LogError). after_log_refusal r p) (sym call.0.0);
+      }
+  log-row (log_said.Log e) object offset size call =
+      record {
+        free = refl;
+        says = refl;
+        shared = call.1 ∙ ap (λ (m : Memory Plain). record a { guest = m.guest }) call.0.1 ∙ ap (λ (r : Option LogError). given_log r object offset) (sym call.0.0);
+        rest = λ p. ap (λ (r : Option LogError). after_log_refusal r p) (sym call.0.0);
+      }
+
   -- the device
 
   device-rest : (s : DeviceSaid) (p : Plan) → turned (device_turn s) p ≡ after_outcome s p
@@ -169,6 +193,9 @@ module _ {V : Type 0} (g : Wiring) (Sound Rise : Type 0) (old new : Option (Shar
 
   pub table_told : (s : TableSaid) (o : TableOp) → Told old new (TableCall o s) → Told old new (IsRow Sound Rise g (Table o) outcome.Done (table_turn s))
   table_told s o told = told-map old new _ _ (λ a b call there. by-row Sound Rise _ (table-row g a b s o call)) told
+
+  pub log_told : (s : LogSaid) (object offset size : ℕ) → Told old new (LogCall object offset size g.tracks s) → Told old new (IsRow Sound Rise g (Log object offset size) outcome.Done (log_turn s))
+  log_told s object offset size told = told-map old new _ _ (λ a b call there. by-row Sound Rise _ (log-row g a b s object offset size call)) told
 
   pub set_told : (s : RingSaid) (queue : ℕ) (o : RingOp) → (s ≡ ring_said.Waits → ⊥) → Told old new (RingCall queue o s) → Told old new (IsRow Sound Rise g (Set queue o) outcome.Done turn.Goes)
   set_told s queue o not_late told = told-map old new _ _ (λ a b call there. by-row Sound Rise _ (set-row g a b s queue o not_late call)) told
@@ -250,3 +277,11 @@ module _ {V D : Type 0} (t : Telling D) (g : Wiring) (old new : PartsState V D) 
       caused = device-caused s counted;
     },
   )
+
+  -- the same of a copy of the call
+  pub device_asked : (s : DeviceSaid) (o given : DeviceOp) (turn : Turn) (refused : Bool) → given ≡ o → turn ≡ device_turn s → refused ≡ is_refused s → IsOutcome given s → new.shared ≡ old.shared → Told old.device new.device (DeviceCall t given s) → IsCounted old.refusals new.refusals s → Acts t g (Device o) (Made turn refused) old new
+  device_asked s o given turn refused copied turns refuses says shared told counted =
+      let P : Turn → Type 0 = λ x. Acts t g (Device o) (Made x refused) old new in
+      let Q : Bool → Type 0 = λ x. Acts t g (Device o) (Made (device_turn s) x) old new in
+      let R : DeviceOp → Type 0 = λ x. Acts t g (Device x) (Made (device_turn s) (is_refused s)) old new in
+      subst P (sym turns) (subst Q (sym refuses) (subst R copied (device_made s given says shared told counted)))

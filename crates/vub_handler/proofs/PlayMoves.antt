@@ -1,14 +1,13 @@
 -- Each step that is played brings a request nearer to its end, and its Answer says what is due.
-use Rattle.std.proofs.Common.{◌≡◌, ◌≢◌, ℕ, ◌+◌, ◌<◌, ◌≤◌, Bool, false, List, [], ◌∷◌, length, Option, Some, None, refl, ap, sym, subst, ◌∙◌, arith}
+use Rattle.std.proofs.Common.{◌≡◌, ◌≢◌, ◌+◌, ◌≤◌, Bool, false, List, [], ◌∷◌, length, Some, None, refl, ap, subst, ◌∙◌, arith}
 use Rattle.vub_mem.specs.declared.errors.MemError.{MemError}
 use Rattle.vub_mem.specs.declared.region.Region.{Region}
 use Rattle.vub_proto.specs.declared.answer.Answer.{Answer}
-use Rattle.vub_proto.specs.declared.device_op.DeviceOp.TheVariants as device
 use Rattle.vub_model.specs.declared.small.Small.{Small}
-use Rattle.vub_model.specs.declared.small.Small.TheVariants.{Table, Device, Answer as Answering}
+use Rattle.vub_model.specs.declared.small.Small.TheVariants.{Answer as Answering}
 use Rattle.vub_model.specs.declared.small.TableOp.{TableOp}
-use Rattle.vub_model.specs.Control.{tail_of, drop_two}
-use Rattle.vub_model.specs.Plans.{Plan, Reply}
+use Rattle.vub_model.specs.Control.{tail_of}
+use Rattle.vub_model.specs.Plans.{Plan}
 use Rattle.vub_vring.specs.declared.ops.TableSaid.TheVariants as change
 use Rattle.vub_plan.specs.declared.half.Head.{Head}
 use Rattle.vub_plan.specs.declared.half.Head.TheVariants as head

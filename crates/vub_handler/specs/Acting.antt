@@ -26,6 +26,8 @@ use Rattle.vub_ring.specs.declared.ops.TableRingSaid.{TableRingSaid}
 use Rattle.vub_ring.specs.declared.ops.TableRingSaid.TheVariants as table_ring_said
 use Rattle.vub_vring.specs.declared.ops.HostSaid.{HostSaid}
 use Rattle.vub_vring.specs.declared.ops.HostSaid.TheVariants as said
+use Rattle.vub_vring.specs.declared.ops.LogSaid.{LogSaid}
+use Rattle.vub_vring.specs.declared.ops.LogSaid.TheVariants as log_said
 use Rattle.vub_vring.specs.declared.ops.TableSaid.{TableSaid}
 use Rattle.vub_vring.specs.declared.ops.TableSaid.TheVariants as change
 use Rattle.vub_vring.specs.Calls.{IsCounted}
@@ -61,6 +63,10 @@ info_turn s = turn.Goes
 abbrev pub table_turn : TableSaid → Turn
 table_turn (change.Regions regions) = turn.Goes
 table_turn (change.Memory e) = turn.Instead (answer.Failed (error.ReqHandlerError (cause.Memory e)))
+
+abbrev pub log_turn : LogSaid → Turn
+log_turn log_said.Done = turn.Goes
+log_turn (log_said.Log e) = turn.Instead (answer.Failed (error.ReqHandlerError (cause.Log e)))
 
 abbrev pub device_turn : DeviceSaid → Turn
 device_turn outcome.Done = turn.Goes

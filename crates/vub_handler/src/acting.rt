@@ -5,7 +5,7 @@ ghost use Rattle.vub_handler.specs.Acting.{ActsBy, ActFrame};
 
 use crate::acted::{Acted, made};
 use crate::asking::ask;
-use crate::changing::table;
+use crate::changing::{log, table};
 use crate::hosting::{add, bell, claim, delete, listen, release, unlisten};
 use crate::pending::{insert, remove};
 use crate::ringing::{info, set};
@@ -15,7 +15,7 @@ use vub_model::Small;
 use vub_plan::{Turn, Wired};
 use vub_vring::Parts;
 
-/// Makes a small step, or finds that an entry in flight lets it wait. A log has no effect yet.
+/// Makes a small step, or finds that an entry in flight lets it wait.
 ///
 /// # Errors
 /// Want of memory leaves the parts as they were.
@@ -66,7 +66,11 @@ pub(crate) fn act<P: Parts>(
             used,
         } => info(alloc, parts, wired, *queue, *desc, *avail, *used),
         Small::Table(op) => Ok(made(table(alloc, parts, wired, op)?)),
-        Small::Log { .. } => Ok(made(Turn::Goes)),
+        Small::Log {
+            object,
+            offset,
+            size,
+        } => Ok(made(log(parts, wired, *object, *offset, *size)?)),
         Small::Device(op) => ask(alloc, parts, wired, op),
         Small::Answer => Ok(made(Turn::Goes)),
     }

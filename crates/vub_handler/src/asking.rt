@@ -22,7 +22,6 @@ fn is_refused(said: &DeviceSaid) -> bool
 }
 
 /// The device is called.
-#[tactic(auto, using(crate::proofs::PartRows::device_made))]
 pub(crate) fn ask<P: Parts>(
     alloc: Global,
     parts: &mut P,

@@ -1,7 +1,7 @@
-//! The small steps that change the table of guest memory.
+//! The small steps that change the table of guest memory, and its log.
 ghost use Rattle.std.specs.Prelude.{◌≡◌, IfOk};
 ghost use Rattle.vub_vring.specs.Calls.{TableCall, IsTableSaid};
-ghost use Rattle.vub_handler.specs.Acting.{table_turn, TurnsBy, CausedBy, PlainFrame, TellsOf};
+ghost use Rattle.vub_handler.specs.Acting.{log_turn, table_turn, TurnsBy, CausedBy, PlainFrame, TellsOf};
 
 use crate::copies::copied_change;
 use std::alloc::Global;
@@ -9,7 +9,7 @@ use vub_base::OutOfMemory;
 use vub_model::{Small, TableOp};
 use vub_plan::{Turn, Wired};
 use vub_proto::{Answer, Cause, VhostUserError};
-use vub_vring::{Parts, TableSaid};
+use vub_vring::{LogSaid, Parts, TableSaid};
 
 /// The table of guest memory is changed, or memory refuses that.
 pub(crate) fn change<P: Parts>(
@@ -53,4 +53,35 @@ pub(crate) fn table<P: Parts>(
 {
     let op = copied_change(alloc, op)?;
     Ok(changed(change(alloc, parts, op)?))
+}
+
+/// After a log was given or refused.
+pub(crate) fn logged(said: LogSaid) -> Turn
+    ensures { result ≡ log_turn said }
+{
+    match said {
+        LogSaid::Done => Turn::Goes,
+        LogSaid::Log(error) => Turn::Instead(Answer::Failed(VhostUserError::ReqHandlerError(
+            Cause::Log(error),
+        ))),
+    }
+}
+
+/// The regions of guest memory get a log.
+#[tactic(auto, using(crate::proofs::PartRows::log_told))]
+pub(crate) fn log<P: Parts>(
+    parts: &mut P,
+    wired: &Wired,
+    object: u32,
+    offset: u64,
+    size: u64,
+) -> Result<Turn, OutOfMemory>
+    ensures row { TurnsBy wired.now (Small.Log object offset size) result (P.state parts.old) (P.state parts.new) }
+    ensures cause { CausedBy result (P.state parts.old) (P.state parts.new) }
+    ensures frame { PlainFrame (P.state parts.old) (P.state parts.new) result }
+{
+    match parts.set_log(object, offset, size, wired.tracks()) {
+        Ok(said) => Ok(logged(said)),
+        Err(_) => Err(OutOfMemory),
+    }
 }

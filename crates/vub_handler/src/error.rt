@@ -6,16 +6,16 @@ use vub_queue::QueueError;
 #[derive(Clone, Copy, Debug, PartialEq, Eq, Error)]
 pub enum VhostUserHandlerError {
     /// The greatest size of a queue is no power of two from 1 to 32768.
-    #[error("failed to create vring: {0}")]
+    #[error("failed to create vring")]
     CreateVring(QueueError),
     /// A worker could not be opened.
-    #[error("failed to create vring epoll handler: {0}")]
+    #[error("failed to create vring epoll handler")]
     CreateEpollHandler(VringEpollError),
     /// A worker could not be started.
-    #[error("failed to spawn vring worker")]
+    #[error("failed spawning the vring worker")]
     SpawnVringWorker,
     /// No mapping holds the address.
-    #[error("missing memory mapping")]
+    #[error("Missing memory mapping")]
     MissingMemoryMapping,
     /// Memory was refused.
     #[error("out of memory")]

@@ -1,8 +1,12 @@
-ghost use Rattle.std.specs.Prelude.{◌≡◌, if◌then◌else◌, IfOk, OnOk, OnErr};
+ghost use Rattle.std.specs.Prelude.{◌≡◌, ◌≤◌, ◌<◌, ◌^◌, true, map, length, if◌then◌else◌, IfOk, IfErr, OnOk, OnErr};
+ghost use Rattle.std.specs.Option.{ForSome};
 ghost use Rattle.vub_mem.specs.Mappings.{gpa_of};
 ghost use Rattle.vub_model.specs.Control.{is_refusal};
 ghost use Rattle.vub_vring.specs.Calls.{telling};
 ghost use Rattle.vub_plan.specs.Halves.{stage_of, IsPlanOf};
+ghost use Rattle.vub_loop.specs.Listening.{ExitFrame};
+ghost use Rattle.vub_handler.specs.Exits.{handle_for, EndsAll};
+ghost use Rattle.vub_handler.specs.Opening.{DecidesSize, IsUnmade, KeepsParts, Makes, is_greatest_size};
 ghost use Rattle.vub_handler.specs.Player.{new_player, mapped};
 ghost use Rattle.vub_handler.specs.Playing.{PlayedBy, CameTo, MovesBy, ComesNearer, PlayFrame};
 
@@ -14,14 +18,17 @@ use crate::due::{due_answer, is_refusal};
 use crate::error::VhostUserHandlerError;
 use crate::known::learn;
 use crate::played::{Played, Progress, as_played, came_to};
+use crate::workers::{is_greatest_size, open_workers, unopened};
 use sqlite_items::Boxed;
 use std::alloc::Global;
 use std::marker::Model;
 use vub_base::{Listed, OutOfMemory};
+use vub_loop::EpollHandle;
 use vub_mem::{Mapping, Region, va_to_gpa};
-use vub_model::{Known, Opened, Session, Small, TableOp};
+use vub_model::{Constants, Known, Opened, Session, Small, TableOp};
 use vub_plan::{Half, Head, Stage, Wired, plan};
 use vub_proto::{Answer, DeviceOp, Request};
+use vub_queue::QueueError;
 use vub_vring::{Parts, TableSaid};
 
 /// The session of a front end (`VhostUserHandler` of the Rust crate `vhost-user-backend`): its wiring, what was set and
@@ -41,7 +48,80 @@ impl Model for VhostUserHandler {
     ghost view = { λ h. record { wiring = h.wired; session = h.session; known = h.known } };
 }
 
+/// The handle of a worker that was opened so, beside so many queues.
+fn handle_for(queues: usize, opened: &Opened) -> EpollHandle
+    ensures { result ≡ handle_for queues opened.now }
+{
+    EpollHandle {
+        worker: opened.worker,
+        list: opened.list,
+        exit: opened.exit,
+        queues,
+    }
+}
+
+/// The greatest number of queues and of workers.
+const GREATEST_COUNT: usize = 4294967295;
+
 impl VhostUserHandler {
+    /// Opens the workers of a device of these constants, and makes the session over them.
+    #[tactic(auto, using(crate::proofs::Opening::made_over, crate::proofs::Opening::unmade, crate::proofs::Opening::unmade_full, crate::proofs::Opening::size_unopened))]
+    fn over_new_workers<P: Parts>(
+        alloc: Global,
+        parts: &mut P,
+        constants: Constants,
+    ) -> Result<VhostUserHandler, VhostUserHandlerError>
+        requires size { is_greatest_size constants.max ≡ true }
+        requires max { constants.max ≤ 32768 }
+        requires queues { constants.queues < 2 ^ 32 }
+        requires workers { length constants.masks < 2 ^ 32 }
+        requires told { ForSome (P.state parts.old).constants (λ c. constants ≡ c) }
+        ensures made { IfOk result (λ handler. Makes handler (P.state parts.old) (P.state parts.new)) }
+        ensures size { DecidesSize result constants }
+        ensures err { IfErr result (IsUnmade (P.state parts.old) (P.state parts.new)) }
+        ensures keeps { KeepsParts (P.state parts.old) (P.state parts.new) }
+    {
+        match open_workers(alloc, parts, constants.masks.len() as u32) {
+            Err(error) => Err(unopened(error)),
+            Ok(opened) => {
+                let wired = Wired::new(constants, Listed::from_vec(opened));
+                match VhostUserHandler::over(alloc, wired) {
+                    Ok(handler) => Ok(handler),
+                    Err(_) => Err(VhostUserHandlerError::OutOfMemory),
+                }
+            }
+        }
+    }
+
+    /// A session of which nothing was asked, over new workers: asks for the device's constants, and opens each worker in
+    /// order.
+    ///
+    /// # Errors
+    /// `CreateVring` exactly where the greatest size of a queue is no power of two from 1 to 32768, and then nothing was
+    /// made; `CreateEpollHandler` only where the host's count of faults rose; want of memory, also at 2^32 queues or
+    /// workers. What was made before stays in the host.
+    #[tactic(auto, using(crate::proofs::Opening::unmade_early, crate::proofs::Opening::unmade_size, crate::proofs::Opening::unmade_after, crate::proofs::Opening::makes_after, crate::proofs::Opening::keeps_untouched, crate::proofs::Opening::keeps_after))]
+    pub fn new<P: Parts>(
+        alloc: Global,
+        parts: &mut P,
+    ) -> Result<VhostUserHandler, VhostUserHandlerError>
+        ensures made { IfOk result (λ handler. Makes handler (P.state parts.old) (P.state parts.new)) }
+        ensures size { ForSome (P.state parts.old).constants (DecidesSize result) }
+        ensures err { IfErr result (IsUnmade (P.state parts.old) (P.state parts.new)) }
+        ensures keeps { KeepsParts (P.state parts.old) (P.state parts.new) }
+    {
+        let Ok(constants) = parts.constants(alloc) else {
+            return Err(VhostUserHandlerError::OutOfMemory);
+        };
+        if !is_greatest_size(constants.max) {
+            return Err(VhostUserHandlerError::CreateVring(QueueError::InvalidMaxSize));
+        }
+        if constants.queues > GREATEST_COUNT || constants.masks.len() > GREATEST_COUNT {
+            return Err(VhostUserHandlerError::OutOfMemory);
+        }
+        VhostUserHandler::over_new_workers(alloc, parts, constants)
+    }
+
     /// A session of which nothing was asked, over these workers.
     ///
     /// # Errors
@@ -72,6 +152,36 @@ impl VhostUserHandler {
         ensures { result.now ≡ self.now.wiring.opened }
     {
         self.wired.opened()
+    }
+
+    /// A handle of each worker, by number.
+    ///
+    /// # Errors
+    /// Want of memory.
+    pub fn get_epoll_handlers(&self, alloc: Global) -> Result<Vec<EpollHandle>, OutOfMemory>
+        ensures { IfOk result (λ handles. handles.items
+            ≡ map (handle_for self.now.wiring.queues) self.now.wiring.opened) }
+    {
+        let queues = self.wired.queue_count() as usize;
+        let handles = self
+            .opened()
+            .iter()
+            .map(|opened| handle_for(queues, opened))
+            .collect(alloc)?;
+        Ok(handles)
+    }
+
+    /// Tells each worker to end that has an exit object: 1 is added to its count, and a full count stays. A fault of the
+    /// host is passed over. Takes no memory.
+    pub fn send_exit_event<P: Parts>(&self, alloc: Global, parts: &mut P)
+        ensures row { EndsAll self.now.wiring.opened (P.state parts.old) (P.state parts.new) }
+        ensures frame { ExitFrame (P.state parts.old) (P.state parts.new) }
+    {
+        let queues = self.wired.queue_count() as usize;
+        let opened = self.opened();
+        for number in 0..opened.len() {
+            handle_for(queues, &opened[number]).send_exit_event(alloc, parts);
+        }
     }
 
     /// What was set and acknowledged.

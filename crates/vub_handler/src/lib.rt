@@ -15,10 +15,12 @@ mod pending;
 mod played;
 mod ringing;
 mod turns;
+mod workers;
 
 pub use acted::Acted;
 pub use copies::copied_call;
 pub use error::VhostUserHandlerError;
 pub use handler::VhostUserHandler;
 pub use played::{Played, Progress};
+pub use vub_loop::EpollHandle;
 pub use vub_plan::{Half, Wired};

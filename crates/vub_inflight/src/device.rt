@@ -1,5 +1,5 @@
-//! Calls of a device under test. Each makes one call on a counter of its own, where that may be made, and has no clause,
-//! so that the tests' own proofs stay small.
+//! Calls of a device under test. Each makes one call on a counter of its own, where that may be made, and has no
+//! clause, so that the tests' own proofs stay small.
 
 ghost use Rattle.std.specs.Prelude.{◌≡◌, ◌<◌, ◌-◌, ◌^◌};
 ghost use Rattle.vub_inflight.specs.declared.stage.Stage.{Stage};

@@ -125,8 +125,8 @@ impl InflightRing {
         })
     }
 
-    /// The queue, whose addresses are set. After [`crate::recover`] it is asked by [`vub_queue::chain_at`] for the chain
-    /// of each head that is to be served again.
+    /// The queue, whose addresses are set. After [`crate::recover`] it is asked by [`vub_queue::chain_at`] for the
+    /// chain of each head that is to be served again.
     pub fn queue(&self) -> &Queue
         ensures value { result.now ≡ self.now.ring }
         ensures addresses { IsSome self.now.ring.addresses }

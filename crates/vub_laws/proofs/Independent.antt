@@ -18,7 +18,7 @@ use Rattle.vub_model.specs.declared.small.Small.TheVariants.{Remove, Insert, Set
 use Rattle.vub_model.specs.declared.small.Small.TheVariants.{Answer as Answering}
 use Rattle.vub_model.specs.declared.wiring.Place.{Place}
 use Rattle.vub_model.specs.declared.setup.Guest.{Guest as GuestAction}
-use Rattle.vub_model.specs.declared.setup.Guest.TheVariants.{Store, Signal}
+use Rattle.vub_model.specs.declared.setup.Guest.TheVariants.{Store, Signal, Harvest}
 use Rattle.vub_proto.specs.declared.device_said.DeviceSaid.{DeviceSaid}
 use Rattle.vub_model.specs.Control.{small_after}
 use Rattle.vub_model.specs.RingRecord.{Vring, closed_ring, has_addresses, is_in_flight}
@@ -40,11 +40,12 @@ use Rattle.vub_model.proofs.Sound.{IsSound, sound-turn}
 use Rattle.vub_model.proofs.Turns.{turn-cases, turn-next}
 use Rattle.vub_laws.specs.Alone.{Placing, serving_of, alone, placed_at, placings, read_by, is_of, read_at, wrote_at, taken_bytes, others_bytes, SparesQueue, KeepsWord, IsUndisturbed, IsAsAlone}
 use Rattle.vub_laws.specs.EntriesLeft.{entries_left}
-use Rattle.vub_laws.proofs.Agreeing.{Clear, agree-changed, spot-left, spot-right, clear-left, clear-right}
+use Rattle.vub_laws.proofs.Agreeing.{Clear, agree-changed, agree-logged, spot-left, spot-right, clear-left, clear-right}
 use Rattle.vub_laws.proofs.Alike.{left-alike}
+use Rattle.vub_laws.proofs.Logless.{same-tables}
 use Rattle.vub_laws.proofs.Own.{State, IsReplied, own-step, state-moved, placed-none}
 use Rattle.vub_laws.proofs.Quiet.{quiet-ring, quiet-agree}
-use Rattle.vub_laws.proofs.Stores.{guest-changes, small-changes}
+use Rattle.vub_laws.proofs.Stores.{guest-changes, small-contents}
 use Rattle.vub_laws.proofs.Uses.{used-run}
 
 all-left : {X : Type 0} (P : X → Type 0) (xs ys : List X) → AllByRecursion P (xs ++ ys) → AllByRecursion P xs
@@ -77,6 +78,7 @@ guest-rings : {V : Type 0} (w : World V) (actions : List GuestAction) → (after
 guest-rings w [] = refl
 guest-rings w (Store o i bs ∷ actions) = refl
 guest-rings w (Signal o ∷ actions) = refl
+guest-rings w (Harvest o n ∷ actions) = refl
 
 pub guest-phases : {V : Type 0} (w : World V) (actions : List GuestAction) → (after_guest w actions).phases ≡ w.phases
 guest-phases w [] = refl
@@ -146,22 +148,21 @@ module _ {V : Type 0} (m : Meaning V) (v : V) (q : ℕ) (F : ℕ → ℕ → Typ
         let z = after_work m w.wiring j w.shared phase l in
         let other : is_of l phase q ≡ false = not-true (is_of l phase q) (λ is. apart (only j (steps-own w.wiring j w.shared q phase l may (i.phases j) (λ p hand. (i.hands j p hand).0) is))) in
         let S : Phase → Type 0 = λ p. State m v q F z.shared p n a r in
-        let moved = state-moved m v q F w.shared z.shared (shape m w.wiring j w.shared phase l may (i.phases j)).rings (ap serving_of (quiet-ring m w.wiring j w.shared q phase l may other)) (confined-work w.shared m w.wiring j phase l).regions fits.word (quiet-agree m w.wiring j w.shared q F phase l (foreign-in j l fits other)) (phase_at w.phases k) n a r s in
+        let moved = state-moved m v q F w.shared z.shared (shape m w.wiring j w.shared phase l may (i.phases j)).rings (ap serving_of (quiet-ring m w.wiring j w.shared q phase l may other)) (same-tables z.shared.guest.regions w.shared.guest.regions (confined-work w.shared m w.wiring j phase l).regions) fits.word (quiet-agree m w.wiring j w.shared q F phase l (foreign-in j l fits other)) (phase_at w.phases k) n a r s in
         (n, a, r, subst S (sym (get_or-set_other w.phases j k z.phase (Stopped Exit) (λ same. apart (sym same)))) moved, ap (λ p. p ++ alone m v q n a r) (sym (placed-none m v q F w.wiring j w.shared phase l may other)))
 
     guest-moves : (actions : List GuestAction) → ((o i : ℕ) → IsSpot (wrote_at (record w { guest = actions }) q party.Guest play.Guest) o i → F o i) → index_word (after_guest w actions).shared q ≡ index_word w.shared q → (n : ℕ) (a : Guest) (r : Vring) → WorldState w n a r → WorldState (after_guest w actions) n a r
     guest-moves actions foreign word n a r s =
         let z = after_guest w actions in
         let only = guest-changes w actions in
-        let moved = state-moved m v q F w.shared z.shared (ap length (guest-rings w actions)) (ap (λ (rs : List Vring). serving_of (slice_index_or rs q closed_ring)) (guest-rings w actions)) only.regions word (λ a x. agree-changed F w.shared.guest a z.shared.guest _ foreign only x) (phase_at w.phases k) n a r s in
+        let moved = state-moved m v q F w.shared z.shared (ap length (guest-rings w actions)) (ap (λ (rs : List Vring). serving_of (slice_index_or rs q closed_ring)) (guest-rings w actions)) (same-tables z.shared.guest.regions w.shared.guest.regions only.regions) word (λ a x. agree-changed F w.shared.guest a z.shared.guest _ foreign only x) (phase_at w.phases k) n a r s in
         let S : List Phase → Type 0 = λ ps. State m v q F z.shared (phase_at ps k) n a r in
         subst S (sym (guest-phases w actions)) moved
 
     control-moves : (s : Small) (said : DeviceSaid) → Fits w party.Control (play.Control s said) (after m w party.Control (play.Control s said)) → (n : ℕ) (a : Guest) (r : Vring) → WorldState w n a r → WorldState (after m w party.Control (play.Control s said)) n a r
     control-moves s said fits n a r st =
         let z = small_after w.wiring w.shared s in
-        let only = small-changes w.wiring w.shared s fits.spared.1 in
-        state-moved m v q F w.shared z (small-rings w.wiring w.shared s) fits.spared.0 fits.spared.1 fits.word (λ a x. agree-changed F w.shared.guest a z.guest [] (λ o i none. absurd none) only x) (phase_at w.phases k) n a r st
+        state-moved m v q F w.shared z (small-rings w.wiring w.shared s) fits.spared.0 fits.spared.1 fits.word (λ a x. agree-logged F w.shared.guest a z.guest fits.spared.1 (small-contents w.wiring w.shared s) x) (phase_at w.phases k) n a r st
 
     step : (p : Party) (l : Play) → May w p l → Fits w p l (after m w p l) → (n : ℕ) (a : Guest) (r : Vring) → WorldState w n a r → WorldStepped (after m w p l) (placed_at w q p l) n a r
     step party.Guest play.Guest may fits n a r s = (n, a, r, guest-moves w.guest fits.foreign fits.word n a r s, refl)

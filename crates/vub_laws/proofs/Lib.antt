@@ -6,6 +6,8 @@ pub mod Drains
 pub mod EntriesLeft
 pub mod EventsLeft
 pub mod Independent
+pub mod Logged
+pub mod Logless
 pub mod Orderly
 pub mod Own
 pub mod Plain

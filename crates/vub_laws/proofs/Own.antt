@@ -37,11 +37,12 @@ use Rattle.vub_model.proofs.Confined.{confined-work}
 use Rattle.vub_model.proofs.Counting.{ring-own, regions-taken, regions-put}
 use Rattle.vub_model.proofs.FlowSteps.{on-within}
 use Rattle.vub_model.proofs.Waking.{called-ring}
-use Rattle.vub_laws.specs.Alone.{serving_of, Placing, placing, alone, placed_in, take_reads, read_by, is_of}
+use Rattle.vub_laws.specs.Alone.{SameTable, serving_of, Placing, placing, alone, placed_in, take_reads, read_by, is_of}
 use Rattle.vub_laws.specs.EntriesLeft.{entries_left}
 use Rattle.vub_laws.proofs.Alike.{Alike, took-alike, said-alike, guest-alike, placing-alike, entry-alike, left-alike, index-alike, taken-alike, put-alike}
 use Rattle.vub_laws.proofs.EntriesLeft.{entry-left, none-left, took-here, none-here}
 use Rattle.vub_laws.proofs.Agreeing.{Agree, agree-put, Clear}
+use Rattle.vub_laws.proofs.Logless.{same-tables, same-answer, same-placing}
 use Rattle.vub_laws.proofs.Taking.{take-same}
 use Rattle.vub_laws.proofs.Quiet.{left-kept, quiet-ring, quiet-hand, quiet-agree}
 
@@ -103,7 +104,7 @@ module _ {V : Type 0} (m : Meaning V) (v : V) (q : ℕ) (F : ℕ → ℕ → Typ
       ap (λ a. number_at w16 z.guest a) (sym (index-alike (ring_at z q) r now)) ∙ same ∙ ap (λ a. number_at w16 h.guest a) (index-alike (ring_at h q) r was)
 
   -- what is shared moves on, but not for this queue
-  module _ (h z : Shared V) (rings : length z.rings ≡ length h.rings) (ring : Alike (ring_at z q) (ring_at h q)) (regions : z.guest.regions ≡ h.guest.regions) (word : index_word z q ≡ index_word h q) (agree : (a : Guest) → Agree F h.guest a → Agree F z.guest a) where
+  module _ (h z : Shared V) (rings : length z.rings ≡ length h.rings) (ring : Alike (ring_at z q) (ring_at h q)) (regions : SameTable z.guest.regions h.guest.regions) (word : index_word z q ≡ index_word h q) (agree : (a : Guest) → Agree F h.guest a → Agree F z.guest a) where
     pub free-moved : (n : ℕ) (a : Guest) (r : Vring) → Free q F h n a r → Free q F z n a r
     free-moved n a r f = record {
       ring = ring ∙ f.ring;
@@ -165,8 +166,8 @@ module _ {V : Type 0} (m : Meaning V) (v : V) (q : ℕ) (F : ℕ → ℕ → Typ
         (λ live. inl (f.left ∙ sym (left-alike (ring_at h q) r f.ring h.guest) ∙ none-left h.guest (ring_at h q) (none-here h q live is)))
         (λ not. f.agree)
 
-    none-regions : (after_none h q).guest.regions ≡ h.guest.regions
-    none-regions = none-leaf h (λ x. x.guest.regions ≡ h.guest.regions) q (λ live. regions-taken h.guest (ring_at h q).queue) (λ not. refl)
+    none-regions : SameTable (after_none h q).guest.regions h.guest.regions
+    none-regions = none-leaf h (λ x. SameTable x.guest.regions h.guest.regions) q (λ live. same-tables _ h.guest.regions (regions-taken h.guest (ring_at h q).queue)) (λ not. refl)
 
     none-kept : ring_at (after_none h q) q ≡ ring_at h q
     none-kept = none-leaf h (λ x. ring_at x q ≡ ring_at h q) q (λ live. refl) (λ not. refl)
@@ -216,9 +217,9 @@ module _ {V : Type 0} (m : Meaning V) (v : V) (q : ℕ) (F : ℕ → ℕ → Typ
         let ring : Alike (ring_at z q) r' = ap serving_of (called-ring (used h e reply) here.call wanted q ∙ ring-own h q (ring_after here op.Put) f.within) ∙ put-alike here taken f.ring in
         let told : put_answer h.guest.regions r.queue c reply true ≡ Ok true =
         said-taken h.guest.regions r c reply _ true wanted (sym (said-alike here taken f.ring h.guest.regions c reply (wants_notification (put_guest h.guest here.queue c reply) (ring_used here.queue))) ∙ addressed h e reply wanted said) in
-        let alike : put_answer a.regions r.queue c reply true ≡ Ok true = ap (λ rs. put_answer rs r.queue c reply true) f.agree.regions ∙ told in
+        let alike : put_answer a.regions r.queue c reply true ≡ Ok true = same-answer a.regions h.guest.regions f.agree.regions r.queue c reply true ∙ told in
         let one : alone m v q n a r ≡ placing a.regions r.queue e reply ∷ alone m v q (entries_left h.guest taken) (put_guest a r.queue c reply) r' = rw f.left (rw f.took (rw alike refl)) in
-        let same : placing a.regions r.queue e reply ≡ placing h.guest.regions here.queue e reply = ap (λ rs. placing rs r.queue e reply) f.agree.regions ∙ sym (placing-alike here taken f.ring h.guest.regions e reply) in
+        let same : placing a.regions r.queue e reply ≡ placing h.guest.regions here.queue e reply = same-placing a.regions h.guest.regions f.agree.regions r.queue e reply ∙ sym (placing-alike here taken f.ring h.guest.regions e reply) in
         let guest : put_guest h.guest here.queue c reply ≡ put_guest h.guest r.queue c reply = guest-alike here taken f.ring h.guest c reply ∙ guest-taken h.guest r c reply in
         let agreed : Agree F (put_guest h.guest here.queue c reply) (put_guest a r.queue c reply) = (let A : Guest → Type 0 = λ x. Agree F x (put_guest a r.queue c reply) in subst A (sym guest) (agree-put F h.guest a r.queue c reply f.agree)) in (
           entries_left h.guest taken,
@@ -228,7 +229,7 @@ module _ {V : Type 0} (m : Meaning V) (v : V) (q : ℕ) (F : ℕ → ℕ → Typ
             serving-idle queues,
             record {
               ring = ring;
-              left = sym (left-kept h.guest z.guest r' (called-regions wanted here.call) (ap (λ p. number_at w16 z.guest p) (sym (index-alike (ring_at z q) r' ring)) ∙ word ∙ ap (λ p. number_at w16 h.guest p) (index-alike here taken f.ring)));
+              left = sym (left-kept h.guest z.guest r' (same-tables z.guest.regions h.guest.regions (called-regions wanted here.call)) (ap (λ p. number_at w16 z.guest p) (sym (index-alike (ring_at z q) r' ring)) ∙ word ∙ ap (λ p. number_at w16 h.guest p) (index-alike here taken f.ring)));
               agree = inr (called-agree wanted here.call agreed);
             },
           ),
@@ -277,7 +278,7 @@ module _ {V : Type 0} (m : Meaning V) (v : V) (q : ℕ) (F : ℕ → ℕ → Typ
           n,
           a,
           r,
-          inl (quiet-hand m g k h q phase l may other none, free-moved h z (shape m g k h phase l may fits).rings (ap serving_of (quiet-ring m g k h q phase l may other)) (confined-work h m g k phase l).regions word (quiet-agree m g k h q F phase l foreign) n a r f),
+          inl (quiet-hand m g k h q phase l may other none, free-moved h z (shape m g k h phase l may fits).rings (ap serving_of (quiet-ring m g k h q phase l may other)) (same-tables z.guest.regions h.guest.regions (confined-work h m g k phase l).regions) word (quiet-agree m g k h q F phase l foreign) n a r f),
           ap (λ p. p ++ alone m v q n a r) (sym (placed-none phase l may other)),
         )
 

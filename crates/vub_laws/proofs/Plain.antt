@@ -21,7 +21,7 @@ use Rattle.vub_model.specs.declared.play.Play.{Play}
 use Rattle.vub_model.specs.declared.play.Play.TheVariants as play
 use Rattle.vub_model.specs.declared.setup.GivenRing.{GivenRing}
 use Rattle.vub_model.specs.declared.setup.Guest.{Guest}
-use Rattle.vub_model.specs.declared.setup.Guest.TheVariants.{Store, Signal}
+use Rattle.vub_model.specs.declared.setup.Guest.TheVariants.{Store, Signal, Harvest}
 use Rattle.vub_model.specs.declared.setup.Object.{Object}
 use Rattle.vub_model.specs.declared.setup.Setup.{Setup}
 use Rattle.vub_model.specs.declared.small.Small.{Small}
@@ -171,6 +171,7 @@ module _ {V : Type 0} (g : Wiring) where
   plain-acted : (h : Shared V) (action : Guest) → IsPlain g h.table → IsPlain g (acted h action).table
   plain-acted h (Store object offset bytes) p = p
   plain-acted h (Signal object) p = plain-raised g h.table object p
+  plain-acted h (Harvest object word) p = p
 
   -- a step of a worker
   module _ (m : Meaning V) (k : ℕ) (h : Shared V) (p : IsPlain g h.table) where

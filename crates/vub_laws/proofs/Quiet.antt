@@ -1,5 +1,5 @@
 -- A step that is no take and no put of a queue leaves its ring, its entries left, and what it reads.
-use Rattle.std.proofs.Common.{◌≡◌, ℕ, Bool, false, cond, List, [], ◌∷◌, Result, Ok, Err, refl, sym, ap₂, ◌∙◌, eqb}
+use Rattle.std.proofs.Common.{◌≡◌, ℕ, Bool, false, cond, List, [], ◌∷◌, Result, Ok, Err, refl, sym, ap, ◌∙◌, eqb}
 use Rattle.std.specs.Int.{w16}
 use Rattle.std.proofs.lemmas.Bool.{eqb-false}
 use Rattle.vub_mem.specs.declared.region.Region.{Region}
@@ -25,9 +25,10 @@ use Rattle.vub_model.proofs.Cases.{work-cases, event-shared, event-phase, heard-
 use Rattle.vub_model.proofs.Confined.{confined-work}
 use Rattle.vub_model.proofs.Counting.{ring-other}
 use Rattle.vub_model.proofs.Waking.{called-ring}
-use Rattle.vub_laws.specs.Alone.{is_of}
+use Rattle.vub_laws.specs.Alone.{is_of, SameTable}
 use Rattle.vub_laws.specs.EntriesLeft.{entries_left}
 use Rattle.vub_laws.proofs.Agreeing.{Agree, agree-changed}
+use Rattle.vub_laws.proofs.Logless.{same-covers}
 
 -- Entries left: by the regions and the index word
 
@@ -38,8 +39,13 @@ left-is : (g : Guest) (r : Vring) → entries_left g r ≡ left-by g.regions r (
 unfolding left-by
 left-is g r = refl
 
-pub left-kept : (g h : Guest) (r : Vring) → h.regions ≡ g.regions → number_at w16 h (avail_index_at r.queue) ≡ number_at w16 g (avail_index_at r.queue) → entries_left h r ≡ entries_left g r
-left-kept g h r regions word = left-is h r ∙ ap₂ (λ rs n. left-by rs r n) regions word ∙ sym (left-is g r)
+left-logless : (rs qs : List Region) → SameTable rs qs → (r : Vring) (word : ℕ) → left-by rs r word ≡ left-by qs r word
+unfolding left-by
+left-logless rs qs same r word = ap (λ b. cond (has_addresses r) (cond b (minus word r.queue.next_avail) 0) 0) (same-covers rs qs same (avail_index_at r.queue) 2)
+
+pub left-kept : (g h : Guest) (r : Vring) → SameTable h.regions g.regions → number_at w16 h (avail_index_at r.queue) ≡ number_at w16 g (avail_index_at r.queue) → entries_left h r ≡ entries_left g r
+left-kept g h r regions word =
+    left-is h r ∙ left-logless h.regions g.regions regions r (number_at w16 h (avail_index_at r.queue)) ∙ ap (λ n. left-by g.regions r n) word ∙ sym (left-is g r)
 
 -- an index that is equal to another, or is not
 pub not-same : (a b : ℕ) → eqb a b ≡ false → a ≡ b → ⊥

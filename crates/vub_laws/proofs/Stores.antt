@@ -8,7 +8,7 @@ use Rattle.vub_mem.specs.Memory as memory
 use Rattle.vub_mem.specs.Place.{content_of, with_bytes, overwritten, store_at}
 use Rattle.vub_mem.proofs.Contents.{content_true, content_false, stores_true, stores_false, length-overwritten}
 use Rattle.vub_model.specs.declared.setup.Guest.{Guest}
-use Rattle.vub_model.specs.declared.setup.Guest.TheVariants.{Store, Signal}
+use Rattle.vub_model.specs.declared.setup.Guest.TheVariants.{Store, Signal, Harvest}
 use Rattle.vub_model.specs.declared.small.Small.{Small}
 use Rattle.vub_model.specs.declared.small.Small.TheVariants.{Claim, Release, Add, Delete, Listen, Unlisten, Bell}
 use Rattle.vub_model.specs.declared.small.Small.TheVariants.{Remove, Insert, Set, Info, Table, Log, Device}
@@ -123,10 +123,12 @@ pub guest-changes : {V : Type 0} (w : World V) (actions : List Guest) → Change
 guest-changes w [] = unchanged [] w.shared.guest
 guest-changes w (Store o i bs ∷ actions) = stored-changes w.shared.guest o i bs
 guest-changes w (Signal o ∷ actions) = unchanged [] w.shared.guest
+guest-changes w (Harvest o n ∷ actions) = unchanged [] w.shared.guest
 
 -- Control
 
-small-contents : {V : Type 0} (g : Wiring) (h : Shared V) (s : Small) → (small_after g h s).guest.contents ≡ h.guest.contents
+-- a step of control changes no byte
+pub small-contents : {V : Type 0} (g : Wiring) (h : Shared V) (s : Small) → (small_after g h s).guest.contents ≡ h.guest.contents
 small-contents g h (Claim o q) = refl
 small-contents g h (Release o) = refl
 small-contents g h (Add k o n) = refl
@@ -142,11 +144,3 @@ small-contents g h (Table change) = refl
 small-contents g h (Log o offset size) = refl
 small-contents g h (Device call) = refl
 small-contents g h Answering = refl
-
--- a step of control changes no byte
-pub small-changes : {V : Type 0} (g : Wiring) (h : Shared V) (s : Small) → (small_after g h s).guest.regions ≡ h.guest.regions → ChangesOnly [] h.guest (small_after g h s).guest
-small-changes g h s regions = record {
-  regions = regions;
-  lengths = λ o. ap (λ cs. length (content_of cs o)) (small-contents g h s);
-  bytes = λ o j apart. ap (λ cs. get_or (content_of cs o) j 0) (small-contents g h s);
-}

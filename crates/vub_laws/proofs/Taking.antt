@@ -2,7 +2,7 @@
 use Rattle.std.proofs.Common.{◌≡◌, ℕ, ◌+◌, Bool, true, false, cond, List, [], ◌∷◌, ◌++◌, Result, Ok, refl, sym, ap, ap₂, subst, ◌∙◌, arith}
 use Rattle.std.specs.Int.{w16, w32, w64}
 use Rattle.vub_mem.specs.Memory.{Guest}
-use Rattle.vub_mem.specs.Place.{covers, number_at, bytes_at}
+use Rattle.vub_mem.specs.Place.{number_at, bytes_at}
 use Rattle.vub_queue.specs.Chain.{descriptor_at, is_writable, Stands, Links, IsChain, read_part, request_of, segments_of, room_of, chain_of}
 use Rattle.vub_queue.specs.Function.{took_of}
 use Rattle.vub_queue.specs.Layout.{Table, slot_of, table_of, avail_index_at, avail_slot_at}
@@ -19,13 +19,18 @@ use Rattle.vub_queue.proofs.Takes.{taken_one}
 use Rattle.vub_model.specs.Written.{spots_of}
 use Rattle.vub_laws.specs.Alone.{table_spots, request_spots, walk_reads, head_reads, take_reads}
 use Rattle.vub_laws.proofs.EntriesLeft.{EntryAt, entry-at, head-by, head-is}
+use Rattle.vub_laws.proofs.Logless.{same-covers}
 use Rattle.vub_laws.proofs.Agreeing.{Agree, Off, off-part, bytes-same, number-same, Clear, off-clear, clear-left, clear-right}
 
 module _ (F : ℕ → ℕ → Type 0) (g h : Guest) (x : Agree F g h) where
+  head-logless : (r : Ring) (word slot : ℕ) → head-by h.regions r word slot ≡ head-by g.regions r word slot
+  unfolding head-by
+  head-logless r word slot = rw (same-covers h.regions g.regions x.regions (avail_index_at r) 2, same-covers h.regions g.regions x.regions (avail_slot_at r) 2) refl
+
   same-head : (r : Ring) → Off F g.regions (avail_index_at r) 2 → Off F g.regions (avail_slot_at r) 2 → head_of h r ≡ head_of g r
   same-head r index slot =
       head-is h r
-      ∙ ap (λ rs. head-by rs r (number_at w16 h (avail_index_at r)) (number_at w16 h (avail_slot_at r))) x.regions
+      ∙ head-logless r (number_at w16 h (avail_index_at r)) (number_at w16 h (avail_slot_at r))
       ∙ ap₂ (λ a b. head-by g.regions r a b) (number-same F w16 g h (avail_index_at r) index x) (number-same F w16 g h (avail_slot_at r) slot x)
       ∙ sym (head-is g r)
 
@@ -43,10 +48,10 @@ module _ (F : ℕ → ℕ → Type 0) (g h : Guest) (x : Agree F g h) where
   same-stands : (t : Table) (i : ℕ) (d : Descriptor) → Off F g.regions (slot_of t i) 16 → Stands g t i d → Stands h t i d
   same-stands t i d off s = record {
     below = s.below;
-    read = ap (λ rs. covers rs (slot_of t i) 16) x.regions ∙ s.read;
+    read = same-covers h.regions g.regions x.regions (slot_of t i) 16 ∙ s.read;
     is = s.is ∙ sym (same-descriptor (slot_of t i) off);
     direct = s.direct;
-    covered = ap (λ rs. covers rs d.addr d.len) x.regions ∙ s.covered;
+    covered = same-covers h.regions g.regions x.regions d.addr d.len ∙ s.covered;
   }
 
   same-links : (t : Table) (i : ℕ) (ds : List Descriptor) → Clear F (table_spots g.regions t i ds) → Links g t i ds → Links h t i ds

@@ -6,6 +6,7 @@ use Rattle.std.specs.Int.{w16, w32, to_le_bytes}
 use Rattle.std.specs.List.{AllByRecursion, flat_map, range_with_len}
 use Rattle.vub_mem.specs.declared.region.Region.{Region}
 use Rattle.vub_mem.specs.Memory as memory
+use Rattle.vub_mem.specs.Table.{unlogged}
 use Rattle.vub_proto.specs.declared.used.Used.{Used}
 use Rattle.vub_queue.specs.Chain.{is_writable}
 use Rattle.vub_queue.specs.EntryNumber.{after}
@@ -31,7 +32,7 @@ use Rattle.vub_model.specs.declared.play.Play.{Play}
 use Rattle.vub_model.specs.declared.play.Play.TheVariants as play
 use Rattle.vub_model.specs.declared.ring_op.RingOp.TheVariants as op
 use Rattle.vub_model.specs.declared.setup.Guest.{Guest}
-use Rattle.vub_model.specs.declared.setup.Guest.TheVariants.{Store, Signal}
+use Rattle.vub_model.specs.declared.setup.Guest.TheVariants.{Store, Signal, Harvest}
 use Rattle.vub_model.specs.Headline.{IsSpot, asked, uses_of}
 use Rattle.vub_model.specs.RingRecord.{Vring, changed}
 use Rattle.vub_model.specs.RunOf.{party_of, next, EachTurn, IsAtRest}
@@ -150,6 +151,7 @@ abbrev pub stored_spots : List Guest → List Spot
 stored_spots [] = []
 stored_spots (Store object offset bytes ∷ actions) = store_spots object offset (length bytes)
 stored_spots (Signal object ∷ actions) = []
+stored_spots (Harvest object word ∷ actions) = []
 
 -- what a turn writes, if it is no take and no put of the queue: control writes no byte
 abbrev pub wrote_at : {V : Type 0} → World V → ℕ → Party → Play → List Spot
@@ -186,12 +188,16 @@ serving_of r =
       flight = flight.None;
     }
 
--- control leaves the queue's size, base, addresses and EVENT_IDX, and the table of regions; it may stop the queue, and
--- change its events and flags
+-- the same regions, but for their logs
+abbrev pub SameTable : List Region → List Region → Type 0
+SameTable rs qs = map unlogged rs ≡ map unlogged qs
+
+-- control leaves the queue's size, base, addresses and EVENT_IDX, and the table of regions but for their logs; it may
+-- stop the queue, change its events and flags, and give the regions a log
 abbrev pub SparesQueue : {V : Type 0} → ℕ → World V → Party → Play → World V → Type 0
 SparesQueue queue old party.Control l new =
     (serving_of (ring_at new.shared queue) ≡ serving_of (ring_at old.shared queue))
-    × (new.shared.guest.regions ≡ old.shared.guest.regions)
+    × SameTable new.shared.guest.regions old.shared.guest.regions
 SparesQueue queue old p l new = Unit {0}
 
 -- the available index word of the queue stays

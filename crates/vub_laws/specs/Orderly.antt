@@ -3,11 +3,15 @@
 use Rattle.std.specs.Prelude.{◌≡◌, ◌<◌, ◌≤◌, ℕ, Bool, true, false, List, length, take, sum_by, Ok}
 use Rattle.vub_mem.specs.declared.region.Region.{Region}
 use Rattle.vub_queue.specs.Put.{put_answer}
+use Rattle.vub_proto.specs.declared.device_said.DeviceSaid.{DeviceSaid}
 use Rattle.vub_queue.specs.Ring.{Ring}
 use Rattle.vub_model.specs.declared.constants.Constants.{Constants}
 use Rattle.vub_model.specs.declared.entry.Entry.{Entry}
+use Rattle.vub_model.specs.declared.party.Party.TheVariants as party
 use Rattle.vub_model.specs.declared.play.Play.{Play}
+use Rattle.vub_model.specs.declared.play.Play.TheVariants as play
 use Rattle.vub_model.specs.declared.setup.Setup.{Setup}
+use Rattle.vub_model.specs.declared.small.Small.TheVariants.{Log}
 use Rattle.vub_model.specs.Opening.{opening, is_registered}
 use Rattle.vub_model.specs.RingRecord.{is_in_flight, limit}
 use Rattle.vub_model.specs.RunOf.{IsRun, IsAtRest}
@@ -15,8 +19,8 @@ use Rattle.vub_model.specs.Running.{IsRunning, calm_end}
 use Rattle.vub_model.specs.Service.{Meaning}
 use Rattle.vub_model.specs.Shared.{ring_at}
 use Rattle.vub_model.specs.ValidSetup.{IsValid}
-use Rattle.vub_model.specs.World.{World}
-use Rattle.vub_laws.specs.Alone.{IsUndisturbed, IsAsAlone, placing, placings}
+use Rattle.vub_model.specs.World.{World, after_control}
+use Rattle.vub_laws.specs.Alone.{SparesQueue, KeepsWord, IsUndisturbed, IsAsAlone, placing, placings}
 use Rattle.vub_laws.specs.Draining.{Drains, EventsArePlain, steps}
 use Rattle.vub_laws.specs.Stretches.{world_after, world_at, stretch}
 
@@ -89,3 +93,11 @@ PlacesEachByte =
     put_answer regions r e.chain reply wanted ≡ Ok told →
     length reply ≤ sum_by (λ s. s.len) e.chain.segments →
     length (placing regions r e reply).spots ≡ length (placing regions r e reply).bytes
+
+-- A step of control that gives the regions a log, or refuses it, spares each queue and leaves its available index word.
+abbrev pub LogsDisturbNoQueue : Type 0 → Type 0
+LogsDisturbNoQueue V =
+    (w : World V) (queue object offset size : ℕ) (said : DeviceSaid) →
+    let step = Log object offset size in
+    SparesQueue queue w party.Control (play.Control step said) (after_control w step said)
+    × KeepsWord queue w party.Control (play.Control step said) (after_control w step said)

@@ -1,6 +1,6 @@
 -- Two runs of an echo service, worked out: what is left to do after each turn of one, and what another serves in two
 -- schedules.
-use Rattle.std.specs.Prelude.{◌≡◌, ℕ, ◌+◌, true, List, [], ◌∷◌, ◌++◌, take, replicate, Some, None}
+use Rattle.std.specs.Prelude.{◌≡◌, ℕ, ◌+◌, true, false, List, [], ◌∷◌, ◌++◌, take, replicate, Some, None}
 use Rattle.vub_proto.specs.declared.used.Used.{Used}
 use Rattle.vub_model.specs.declared.constants.Constants.{Constants}
 use Rattle.vub_model.specs.declared.play.Play.{Play}
@@ -23,7 +23,15 @@ echo = record { reply_of = λ v request room. take room request; after = λ v re
 -- a device with so many queues, all of one worker
 unfoldable pub one_worker : ℕ → ℕ → Constants
 one_worker queues mask =
-    record { queues = queues; max = 256; features = 0; protocol = 0; masks = mask ∷ []; exits = None ∷ [] }
+    record {
+      queues = queues;
+      max = 256;
+      features = 0;
+      protocol = 0;
+      tracks = false;
+      masks = mask ∷ [];
+      exits = None ∷ [];
+    }
 
 -- A queue of two descriptors in 96 bytes of memory from a base on: the table at 0, the available ring at 32, the used
 -- ring at 44, a request of five bytes at 72, and room for sixteen at 80.

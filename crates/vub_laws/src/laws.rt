@@ -1,5 +1,6 @@
 //! Laws of whole runs: each of these calls does nothing, and its contract is the law.
-ghost use Rattle.vub_laws.specs.Orderly.{PlacesEachByte, RunsAreOrderly, SchedulesAgree};
+ghost use Rattle.vub_laws.specs.Orderly.{LogsDisturbNoQueue, PlacesEachByte, RunsAreOrderly, SchedulesAgree};
+ghost use Rattle.vub_laws.specs.Ranges.{StepsWriteTheirRanges};
 ghost use Rattle.vub_laws.specs.Touched.{ApartQueuesAreUndisturbed};
 ghost use Rattle.vub_laws.specs.Worked.{RepliesAreTheSame, WorkFallsToNothing};
 
@@ -16,6 +17,11 @@ pub fn schedules_agree<V>()
     ensures { SchedulesAgree V }
 {}
 
+/// A step of control that gives the regions a log, or refuses it, leaves all that serving a queue depends on.
+pub fn logs_disturb_no_queue<V>()
+    ensures { LogsDisturbNoQueue V }
+{}
+
 /// What is recorded of a put has a place for each byte, where the put is not refused and the reply fits its room.
 pub fn each_byte_has_its_place()
     ensures { PlacesEachByte }
@@ -25,6 +31,11 @@ pub fn each_byte_has_its_place()
 /// that the guest or a step for another queue wrote.
 pub fn apart_queues_are_undisturbed<V>()
     ensures { ApartQueuesAreUndisturbed V }
+{}
+
+/// The bytes that a step of a worker writes are those of the ranges whose pages it marks in the logs.
+pub fn steps_write_their_ranges<V>()
+    ensures { StepsWriteTheirRanges V }
 {}
 
 /// A guest publishes one entry and signals, and the worker serves it in ten steps: what is left to do, worked out turn

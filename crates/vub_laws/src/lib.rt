@@ -4,6 +4,7 @@
 mod laws;
 
 pub use laws::{
-    apart_queues_are_undisturbed, each_byte_has_its_place, replies_are_the_same, runs_are_orderly,
-    schedules_agree, work_falls_to_nothing,
+    apart_queues_are_undisturbed, each_byte_has_its_place, logs_disturb_no_queue,
+    replies_are_the_same, runs_are_orderly, schedules_agree, steps_write_their_ranges,
+    work_falls_to_nothing,
 };

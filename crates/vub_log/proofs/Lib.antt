@@ -1,4 +1,5 @@
 pub mod Holding
+pub mod PlainBytes
 pub mod Seating
 pub mod Steps
 pub mod Words

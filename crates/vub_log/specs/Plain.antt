@@ -1,7 +1,8 @@
 -- The plain log: its words of 32 pages, and how often each was harvested.
-use Rattle.std.specs.Prelude.{◌≡◌, ℕ, ◌+◌, ◌*◌, ◌/◌, ◌%◌, ◌^◌, ◌<◌, List, length, replicate, slice_index, slice_set}
+use Rattle.std.specs.Prelude.{◌≡◌, ℕ, ◌+◌, ◌*◌, ◌/◌, ◌%◌, ◌^◌, ◌<◌, List, length, map, replicate, slice_index, slice_set}
 use Rattle.std.specs.Prelude.{bit_or}
 use Rattle.std.specs.Int.{bit_at}
+use Rattle.std.specs.List.{range_with_len}
 use Rattle.vub_mem.specs.LogBits.{LogBits}
 
 pub record Plain : Type 0 where
@@ -34,9 +35,17 @@ abbrev pub marked : Plain → ℕ → Plain
 marked log page =
     record log { words = slice_set log.words (page / 32) (bit_or (word_of log (page / 32)) (2 ^ (page % 32))) }
 
--- a byte of the log: words are little-endian
+-- a byte of these words, which are little-endian
+abbrev pub byte_in : List ℕ → ℕ → ℕ
+byte_in words byte = slice_index words (byte / 4) / 2 ^ (8 * (byte % 4)) % 256
+
+-- a byte of the log
 abbrev pub byte_of : Plain → ℕ → ℕ
-byte_of log byte = word_of log (byte / 4) / 2 ^ (8 * (byte % 4)) % 256
+byte_of log byte = byte_in log.words byte
+
+-- the bytes of the log, in order
+abbrev pub bytes_of : Plain → List ℕ
+bytes_of log = map (λ n. byte_of log n) (range_with_len 0 log.len)
 
 -- the log after a harvest of a word
 abbrev pub harvested : Plain → ℕ → Plain

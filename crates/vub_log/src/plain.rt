@@ -1,8 +1,10 @@
-ghost use Rattle.std.specs.Prelude.{◌≡◌, ◌↔◌, ◌⊎◌, ◌^◌, ◌≤◌, Some, IfOk, IfErr};
-ghost use Rattle.vub_log.specs.Plain.{fresh, byte_of, harvest_count, told_bits, IsMark, IsHarvest};
+ghost use Rattle.std.specs.Prelude.{◌≡◌, ◌↔◌, ◌⊎◌, ◌*◌, ◌/◌, ◌%◌, ◌^◌, ◌<◌, ◌≤◌, length, map, Some, IfOk, IfErr};
+ghost use Rattle.std.specs.List.{range_with_len};
+ghost use Rattle.vub_log.specs.Plain.{fresh, byte_of, byte_in, bytes_of, harvest_count, told_bits, IsMark, IsHarvest};
 
 use std::alloc::Global;
 use std::marker::Model;
+use vub_base::{Bytes, OutOfMemory};
 use vub_mem::{DirtyLog, HarvestLog, LogError};
 
 /// A log of dirty pages in plain memory, which one owner marks, reads and harvests. It tells its words and how often
@@ -24,6 +26,27 @@ impl Model for PlainLog {
     ghost view = { plain_view };
 
     ghost invariant = { IsPlain };
+}
+
+/// Byte `byte` of these words, which are little-endian.
+fn byte_at(words: &[u32], byte: u64) -> u8
+    requires { byte / 4 < length words.now }
+    ensures { result ≡ byte_in words.now byte }
+{
+    let word = words[(byte / 4) as usize];
+    ((word >> (8 * (byte % 4)) as u32) % 256) as u8
+}
+
+/// The first `len` bytes of these words.
+fn bytes_in(alloc: Global, words: &[u32], len: u64) -> Result<Vec<u8>, OutOfMemory>
+    requires { len ≤ 4 * length words.now }
+    ensures { IfOk result (λ bytes. bytes.items ≡ map (λ n. byte_in words.now n) (range_with_len 0 len)) }
+{
+    let mut bytes = Vec::with_capacity(alloc, len as usize)?;
+    for byte in 0..len {
+        bytes.push(byte_at(words, byte))?;
+    }
+    Ok(bytes)
 }
 
 impl PlainLog {
@@ -52,6 +75,17 @@ impl PlainLog {
         };
         Ok(PlainLog { len, words, counts })
     }
+
+    /// The bytes of the log: page `p` is bit `p % 8` of byte `p / 8`.
+    ///
+    /// # Errors
+    /// Want of memory.
+    pub fn to_bytes(&self, alloc: Global) -> Result<Bytes, OutOfMemory>
+        ensures { IfOk result (λ bytes. bytes ≡ bytes_of self.now) }
+    {
+        let bytes = bytes_in(alloc, self.words.as_slice(), self.len)?;
+        Ok(Bytes::from_vec(bytes))
+    }
 }
 
 impl DirtyLog for PlainLog {
@@ -79,8 +113,7 @@ impl DirtyLog for PlainLog {
     }
 
     fn load(&mut self, byte: u64) -> u8 {
-        let word = self.words[(byte / 4) as usize];
-        ((word >> (8 * (byte % 4)) as u32) % 256) as u8
+        byte_at(self.words.as_slice(), byte)
     }
 }
 

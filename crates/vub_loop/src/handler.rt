@@ -402,8 +402,8 @@ impl VringEpollHandler {
         }
     }
 
-    /// Put: the entry in hand is used with the service's reply, and the driver is told where it wants that. Where a byte
-    /// of the use is outside guest memory, the entry is held and the worker stops.
+    /// Put: the entry in hand is used with the service's reply, and the driver is told where it wants that. Where a
+    /// byte of the use is outside guest memory, the entry is held and the worker stops.
     ///
     /// # Errors
     /// Want of memory leaves the worker and the parts as they were.

@@ -6,8 +6,8 @@ use std::marker::Model;
 use std::mem;
 use vub_model::Phase;
 
-/// Where a worker stands. An entry in hand has the room of its segments, and the reply to it fits there. A contract sees
-/// the phase.
+/// Where a worker stands. An entry in hand has the room of its segments, and the reply to it fits there. A contract
+/// sees the phase.
 #[derive(Debug, Drop)]
 pub(crate) struct Standing {
     phase: Phase,

@@ -14,8 +14,8 @@ use vub_model::{
 use vub_proto::{DeviceOp, DeviceSaid, FixedDevice, ListenerError, Service};
 use vub_queue::{Chain, Segments};
 use vub_vring::{
-    HostOp, HostSaid, KickSaid, OwnedParts, Parts, PartsError, PendOp, PendSaid, Pending, PutSaid,
-    Store, TableRing, TableRingSaid, TableSaid, VringState, play_device,
+    HostOp, HostSaid, KickSaid, LogSaid, OwnedParts, Parts, PartsError, PendOp, PendSaid, Pending,
+    PutSaid, Store, TableRing, TableRingSaid, TableSaid, VringState, play_device,
 };
 
 /// A service whose replies are empty.
@@ -131,6 +131,16 @@ impl Parts for Silent {
         Ok(TableSaid::Regions(Listed::new(alloc)))
     }
 
+    fn set_log(
+        &mut self,
+        _object: u32,
+        _offset: u64,
+        _size: u64,
+        _tracks: bool,
+    ) -> Result<LogSaid, PartsError> {
+        Ok(LogSaid::Done)
+    }
+
     fn device(&mut self, alloc: Global, op: DeviceOp) -> Result<DeviceSaid, PartsError> {
         play_device(alloc, &mut self.device, op)
     }
@@ -158,6 +168,7 @@ fn one_worker_with(alloc: Global, exit: Option<u32>) -> Result<Constants, OutOfM
         max: 256,
         features: 0,
         protocol: 0,
+        tracks: false,
         masks,
         exits,
     })
@@ -356,7 +367,7 @@ fn failing_host(alloc: Global) -> Result<MemHost, HostError> {
 }
 
 /// A store with one ring of which nothing is given, whose queue is pending.
-fn store_over(alloc: Global, host: MemHost) -> Result<Store<()>, Fail> {
+fn store_over(alloc: Global, host: MemHost) -> Result<Store, Fail> {
     let mut rings = Vec::new(alloc);
     rings.push(VringState::new(256)?)?;
     let mut numbers = Pending::new(alloc);
@@ -375,7 +386,7 @@ fn store_over(alloc: Global, host: MemHost) -> Result<Store<()>, Fail> {
 fn after_over_store(
     rt: &impl Abort,
     alloc: Global,
-    store: &mut Store<()>,
+    store: &mut Store,
     turns: &[Came],
 ) -> Result<VringEpollHandler, Fail> {
     let constants = one_worker(alloc)?;

@@ -11,7 +11,7 @@ use Rattle.vub_mem.specs.Found.{IsFound}
 use Rattle.vub_mem.specs.PlaceAt.{RunsOn, place_in}
 use Rattle.vub_mem.proofs.Ranges.{find_all, covers_at, length-bytes_at, get_or-bytes_at, bytes_at_more, bytes_at_none}
 
-not_held : (q : Region) (b : ℕ) → q.start + q.len ≤ b → holds q b ≡ false
+pub not_held : (q : Region) (b : ℕ) → q.start + q.len ≤ b → holds q b ≡ false
 not_held q b h = and_right (leb q.start b) (ltb (b - q.start) q.len) (le-ltb (b - q.start) q.len (omega arith))
 
 -- each address of a region is found in it

@@ -1,7 +1,8 @@
 -- Laws of numbered contents.
-use Rattle.std.proofs.Common.{◌≡◌, ℕ, suc, ◌+◌, ◌<◌, ◌≤◌, inl, inr, Bool, true, false, cond, List, [], ◌∷◌, ◌++◌, Some, None, refl, sym, ap, subst, ◌∙◌, arith, position, ltb, eqb, length, get_or, set, take, drop, slice_set, length-set, length-append, length-drop, length-take-le, take-append-drop}
+use Rattle.std.proofs.Common.{◌≡◌, ℕ, suc, ◌+◌, ◌<◌, ◌≤◌, inl, inr, true, false, List, [], ◌∷◌, ◌++◌, Some, None, Result, Ok, Err, refl, sym, ap, subst, ◌∙◌, arith, position, ltb, eqb, length, get_or, set, take, drop, slice_set, length-set, length-append, length-drop, length-take-le, take-append-drop}
+use Rattle.std.specs.Prelude.{OnOk, OnErr}
 use Rattle.std.specs.List.{position_or_len, AllByRecursion}
-use Rattle.std.proofs.lemmas.Bool.{cases_Bool, ltb-true, ltb-false, cond-true, cond-false, cond_both}
+use Rattle.std.proofs.lemmas.Bool.{cases_Bool, ltb-true, ltb-false, cond-true, cond-false}
 use Rattle.vub_mem.specs.declared.region.Region.{Region}
 use Rattle.vub_mem.specs.declared.content.Content.{Content}
 use Rattle.vub_mem.specs.Place.{is_numbered, content_of, with_byte, with_bytes, overwritten}
@@ -142,11 +143,11 @@ backed_longer : (cs : List Content) (c : Content) (rs : List Region) → AllByRe
 backed_longer cs c [] h = tt
 backed_longer cs c (r ∷ rs) h = (omega (arith, h.0, longer cs c r.object), backed_longer cs c rs h.1)
 
--- a content more, or none
-pub sound_push : (b : Bool) (rs : List Region) (cs ds : List Content) (c : Content) → IsSound (record { regions = rs; contents = cs }) → ds ≡ cond b (cs ++ c ∷ []) cs → IsSound (record { regions = rs; contents = ds })
-sound_push b rs cs ds c sound e =
-    let Sound : List Content → Type 0 = λ l. IsSound (record { regions = rs; contents = l }) in
-    subst Sound (sym e) (cond_both b (cs ++ c ∷ []) cs Sound (λ t. record { bounded = sound.bounded; backed = backed_longer cs c rs sound.backed; apart = sound.apart }) (λ f. sound))
+-- a content more, or none where it was refused
+pub sound_put : {T E : Type 0} (answer : Result T E) (rs : List Region) (cs ds : List Content) (c : Content) → IsSound (record { regions = rs; contents = cs }) → OnOk answer (ds ≡ cs ++ c ∷ []) → OnErr answer (ds ≡ cs) → IsSound (record { regions = rs; contents = ds })
+sound_put (Ok x) rs cs ds c sound more same =
+    subst (λ l. IsSound (record { regions = rs; contents = l })) (sym more) (record { bounded = sound.bounded; backed = backed_longer cs c rs sound.backed; apart = sound.apart })
+sound_put (Err e) rs cs ds c sound more same = subst (λ l. IsSound (record { regions = rs; contents = l })) (sym same) sound
 
 pub length-overwritten : (xs : List ℕ) (i : ℕ) (bs : List ℕ) → i + length bs ≤ length xs → length (overwritten xs i bs) ≡ length xs
 length-overwritten xs i bs h = omega (arith, length-append (take i xs) (bs ++ drop (i + length bs) xs), length-append bs (drop (i + length bs) xs), length-drop (i + length bs) xs, (let low : i ≤ length xs = omega arith in length-take-le i xs low))

@@ -20,7 +20,7 @@ first_true p x xs t = rw t refl
 pub first_false : {X : Type 0} → (p : X → Bool) (x : X) (xs : List X) → p x ≡ false → position_or_len p (x ∷ xs) ≡ suc (position_or_len p xs)
 first_false p x xs f = rw f (omega arith)
 
-find_first : {X : Type 0} → (p : X → Bool) (xs : List X) (d : X) → position_or_len p xs < length xs → find p xs ≡ Some (get_or xs (position_or_len p xs) d)
+pub find_first : {X : Type 0} → (p : X → Bool) (xs : List X) (d : X) → position_or_len p xs < length xs → find p xs ≡ Some (get_or xs (position_or_len p xs) d)
 find_first p [] d h = absurd (omega arith)
 find_first p (x ∷ xs) d h =
     elim (cases_Bool (p x)) [
@@ -29,7 +29,7 @@ find_first p (x ∷ xs) d h =
           cond-false (p x) (Some x) (find p xs) f ∙ find_first p xs d below ∙ sym (ap (λ k. Some (get_or (x ∷ xs) k d)) (first_false p x xs f)))
     ]
 
-find_nothing : {X : Type 0} → (p : X → Bool) (xs : List X) → length xs ≤ position_or_len p xs → find p xs ≡ None
+pub find_nothing : {X : Type 0} → (p : X → Bool) (xs : List X) → length xs ≤ position_or_len p xs → find p xs ≡ None
 find_nothing p [] h = refl
 find_nothing p (x ∷ xs) h =
     elim (cases_Bool (p x)) [

@@ -2,8 +2,10 @@ pub mod Chunks
 pub mod Contents
 pub mod Finds
 pub mod Frames
+pub mod Halving
 pub mod Mapped
 pub mod MarkLaws
+pub mod Numbers
 pub mod Pages
 pub mod Ranges
 pub mod ReadsBack

@@ -174,13 +174,13 @@ logged_push len b ss ts s rs all e =
     subst Logged (sym e) (cond_both b (ss ++ s ∷ []) ss Logged (λ t. logged_keep len ss (ss ++ s ∷ []) rs (λ q. len_push len ss s q) all) (λ f. all))
 
 -- what two writes into vectors leave
-pub sound_written : {L : Type 0} → (len : L → ℕ) (rs qs ps : List Region) (n : ℕ) (old new : List Content) (m : ℕ) (olds news : List (Stored L)) → qs ≡ rs → ps ≡ rs → length new ≡ length old → n ≡ length old → length news ≡ length olds → m ≡ length olds → IsSound (record { regions = qs; contents = new }) → AllByRecursion (λ r. IsLogged len news r) ps →
-    IsSoundMemory len (record { guest = record { regions = rs; contents = take n (new ++ drop (length new) old) }; logs = take m (news ++ drop (length news) olds) })
-sound_written len rs qs ps n old new m olds news qs_is ps_is e k f j sound logged =
-    rw (put_back n new old e k) (rw (put_back m news olds f j) (record {
+pub sound_written : {L : Type 0} → (len : L → ℕ) (rs qs ps : List Region) (new : List Content) (m : ℕ) (olds news : List (Stored L)) → qs ≡ rs → ps ≡ rs → length news ≡ length olds → m ≡ length olds → IsSound (record { regions = qs; contents = new }) → AllByRecursion (λ r. IsLogged len news r) ps →
+    IsSoundMemory len (record { guest = record { regions = rs; contents = new }; logs = take m (news ++ drop (length news) olds) })
+sound_written len rs qs ps new m olds news qs_is ps_is f j sound logged =
+    rw (put_back m news olds f j) (record {
       guest = subst (λ l. IsSound (record { regions = l; contents = new })) qs_is sound;
       logged = subst (λ l. AllByRecursion (λ r. IsLogged len news r) l) ps_is logged;
-    }))
+    })
 
 -- what a change of the logs leaves
 pub sound_logs : {L : Type 0} → (len : L → ℕ) (g : Guest) (m : ℕ) (olds news : List (Stored L)) → length news ≡ length olds → m ≡ length olds → IsSoundMemory len (record { guest = g; logs = olds }) → ((q : ℕ) → log_len len news q ≡ log_len len olds q) →

@@ -1,6 +1,7 @@
 -- Every page that a range meets in a region with a log is marked, and a log that tells its bits shows it.
 use Rattle.std.proofs.Common.{◌≡◌, ℕ, zero, suc, ◌+◌, ◌-◌, ◌*◌, ◌/◌, ◌%◌, ◌<◌, ◌≤◌, ◌⊎◌, ◌↔◌, inl, inr, Bool, true, List, [], ◌∷◌, ◌++◌, Option, Some, None, refl, sym, ap, subst, ◌∙◌, arith, max, eqb, ltb, leb, flat_map, MatchBool}
 use Rattle.std.specs.List.{range_with_len, AllByRecursion}
+use Rattle.std.specs.Option.{ForSome}
 use Rattle.std.proofs.lemmas.Bool.{cases_Bool, cases_lt, and_parts, and_from, cond-true, cond-false, eqb-true, eqb-false, le-leb, lt-ltb, leb-true, ltb-true}
 use Rattle.std.proofs.lemmas.List.Concat.{flat_map-cons}
 use Rattle.vub_mem.specs.declared.dirty.Stored.{Stored}
@@ -12,14 +13,15 @@ use Rattle.vub_mem.specs.Marks.{Mark, MarksAll, page_marks, mark_at, mark_of, ma
 use Rattle.vub_mem.specs.Place.{region_of}
 use Rattle.vub_mem.specs.Sound.{IsApart, IsBounded}
 use Rattle.vub_mem.specs.Track.{is_aligned}
+use Rattle.vub_mem.proofs.Finds.{all_from}
 use Rattle.vub_mem.proofs.Ranges.{find_all, find_holds}
 use Rattle.vub_mem.proofs.Chunks.{same_region}
 
-in_front : {X : Type 0} → (x : X) (xs ys : List X) → IsIn x xs → IsIn x (xs ++ ys)
+pub in_front : {X : Type 0} → (x : X) (xs ys : List X) → IsIn x xs → IsIn x (xs ++ ys)
 in_front x [] ys h = absurd h
 in_front x (z ∷ zs) ys h = elim h [ inl e ↦ inl e | inr t ↦ inr (in_front x zs ys t) ]
 
-in_back : {X : Type 0} → (x : X) (xs ys : List X) → IsIn x ys → IsIn x (xs ++ ys)
+pub in_back : {X : Type 0} → (x : X) (xs ys : List X) → IsIn x ys → IsIn x (xs ++ ys)
 in_back x [] ys h = h
 in_back x (z ∷ zs) ys h = inr (in_back x zs ys h)
 
@@ -59,11 +61,18 @@ count_more a (suc n) k h =
 mark_same : (o : Option Region) (r : Region) (l : AtomicBitmapMmap) (x : ℕ) → o ≡ Some r → r.log ≡ Some l → mark_of o x ≡ record { object = l.object; page = 8 * l.offset + x / 4096 } ∷ []
 mark_same o r l x e f = ap (λ q. mark_of q x) e ∙ ap (λ q. mark_in q x) f
 
-pub met_page : (rs : List Region) → IsApart rs → AllByRecursion IsBounded rs → (a n k : ℕ) (r : Region) (l : AtomicBitmapMmap) → k < n → region_of rs (a + k) ≡ Some r → r.log ≡ Some l → IsIn (record { object = l.object; page = 8 * l.offset + (a + k) / 4096 }) (marks_of rs a n)
+-- a region that begins and ends at a page, if it has a log
+abbrev pub IsPaged : Region → Type 0
+IsPaged r = ForSome r.log (λ l. is_aligned r ≡ true)
+
+pub all_paged : (rs : List Region) → AllByRecursion IsBounded rs → AllByRecursion IsPaged rs
+all_paged rs bounded = all_from IsBounded IsPaged rs (λ r h. h.aligned) bounded
+
+pub met_page : (rs : List Region) → IsApart rs → AllByRecursion IsPaged rs → (a n k : ℕ) (r : Region) (l : AtomicBitmapMmap) → k < n → region_of rs (a + k) ≡ Some r → r.log ≡ Some l → IsIn (record { object = l.object; page = 8 * l.offset + (a + k) / 4096 }) (marks_of rs a n)
 unfolding marks_of mark_at
-met_page rs apart bounded a n k r l h is has =
-    let found : IsBounded r = find_all IsBounded rs (a + k) r bounded is in
-    let aligned : is_aligned r ≡ true = found.aligned l has in
+met_page rs apart paged a n k r l h is has =
+    let found : IsPaged r = find_all IsPaged rs (a + k) r paged is in
+    let aligned : is_aligned r ≡ true = found l has in
     let page : ℕ = (a + k) / 4096 in
     let first : max a (4096 * page) / 4096 ≡ page = omega arith in
     let one : mark_of (region_of rs (max a (4096 * page))) (max a (4096 * page)) ≡ record { object = l.object; page = 8 * l.offset + page } ∷ [] =
@@ -112,7 +121,7 @@ shown len marks shows is old new (x ∷ xs) h m known =
       | inr was ↦ shown len marks shows is h.0 new xs h.2 m (inr (change_keeps_fact (λ a b. page_marks len marks a x.page b) (λ log. shows log m.page ≡ true) old h.0 x.object m.object (λ a b made there. is.keeps a x.page b m.page made.marked there) h.1 was))
     ]
 
-in_parts : {X : Type 0} → (x : X) (xs ys : List X) → IsIn x (xs ++ ys) → IsIn x xs ⊎ IsIn x ys
+pub in_parts : {X : Type 0} → (x : X) (xs ys : List X) → IsIn x (xs ++ ys) → IsIn x xs ⊎ IsIn x ys
 in_parts x [] ys h = inr h
 in_parts x (z ∷ zs) ys h = elim h [ inl e ↦ inl (inl e) | inr t ↦ elim (in_parts x zs ys t) [ inl i ↦ inl (inr i) | inr i ↦ inr i ] ]
 
@@ -158,5 +167,5 @@ met_only rs a n m h =
     met_at rs a n (at - a) m (count_less a n found.0 found.1 found.2) (region_of rs (a + (at - a))) refl
     (subst (λ x. IsIn m (mark_of (region_of rs x) x)) (sym behind) found.3)
 
-pub marks_met : (rs : List Region) → IsApart rs → AllByRecursion IsBounded rs → (a n : ℕ) (m : Mark) → IsIn m (marks_of rs a n) ↔ MeetsPage rs a n m
-marks_met rs apart bounded a n m = (met_only rs a n m, (λ meets. subst (λ y. IsIn y (marks_of rs a n)) (sym meets.is) (met_page rs apart bounded a n meets.behind meets.region meets.log meets.within meets.lies meets.logged)))
+pub marks_met : (rs : List Region) → IsApart rs → AllByRecursion IsPaged rs → (a n : ℕ) (m : Mark) → IsIn m (marks_of rs a n) ↔ MeetsPage rs a n m
+marks_met rs apart paged a n m = (met_only rs a n m, (λ meets. subst (λ y. IsIn y (marks_of rs a n)) (sym meets.is) (met_page rs apart paged a n meets.behind meets.region meets.log meets.within meets.lies meets.logged)))

@@ -35,7 +35,7 @@ pairs_none r rs i d o h e is = ap (λ x. or_else x (pairs_from (get_or rs i d) (
 pub pairs_end : (r : Region) (rs : List Region) (i : ℕ) (o : Option MemError) → length rs ≤ i → pairs_from r (drop i rs) ≡ o → None ≡ o
 pairs_end r rs i o h e = sym (ap (λ l. pairs_from r l) (drop_of_length-le rs h)) ∙ e
 
-parts_none : (a b : Option MemError) → or_else a b ≡ None → (a ≡ None) × (b ≡ None)
+pub parts_none : (a b : Option MemError) → or_else a b ≡ None → (a ≡ None) × (b ≡ None)
 parts_none None b e = (refl, e)
 parts_none (Some f) b e = absurd (let h : Some f ≡ None = e in cc)
 
@@ -58,7 +58,7 @@ all_behind e r (s ∷ ss) h none =
     let after : r.start + r.len ≤ s.start = behind r s parts.0 in
     (omega arith, all_behind e s ss (omega arith) parts.1)
 
-apart : (r : Region) (rs : List Region) → pairs_from r rs ≡ None → IsApart (map unlogged (r ∷ rs))
+pub apart : (r : Region) (rs : List Region) → pairs_from r rs ≡ None → IsApart (map unlogged (r ∷ rs))
 apart r [] none = (tt, tt)
 apart r (s ∷ ss) none =
     let parts : (pair_fault r s ≡ None) × (pairs_from s ss ≡ None) = parts_none (pair_fault r s) (pairs_from s ss) none in
@@ -87,7 +87,7 @@ behind_map f [] e d same keeps all = tt
 behind_map f (r ∷ rs) e d same keeps all = ((let k = keeps r in omega (arith, k.0, all.0)), behind_map f rs e d same keeps all.1)
 
 -- regions that keep their start, their length and their place, with other logs
-apart_map : (f : Region → Region) (rs : List Region) → ((r : Region) → ((f r).start ≡ r.start) × ((f r).len ≡ r.len)) → IsApart rs → IsApart (map f rs)
+pub apart_map : (f : Region → Region) (rs : List Region) → ((r : Region) → ((f r).start ≡ r.start) × ((f r).len ≡ r.len)) → IsApart rs → IsApart (map f rs)
 apart_map f [] keeps all = tt
 apart_map f (r ∷ rs) keeps all = (behind_map f rs (r.start + r.len) ((f r).start + (f r).len) (let k = keeps r in omega (arith, k.0, k.1)) keeps all.0, apart_map f rs keeps all.1)
 
@@ -110,17 +110,18 @@ none_meets q r rs e =
       | inr f ↦ (f, (let h : (false || list_any (λ s. meets s r) rs) ≡ false = subst (λ b. (b || list_any (λ s. meets s r) rs) ≡ false) f e in h))
     ]
 
-apart_insert : (rs : List Region) (r : Region) → 0 < r.len → AllByRecursion IsBounded rs → IsApart rs → list_any (λ q. meets q r) rs ≡ false → IsApart (insert rs (place_of rs r) r)
-apart_insert [] r some bounded apart none = (tt, tt)
-apart_insert (q ∷ qs) r some bounded apart none =
+-- a region that meets none joins the table
+pub apart_insert : (rs : List Region) (r : Region) → 0 < r.len → AllByRecursion (λ q. 0 < q.len) rs → IsApart rs → list_any (λ q. meets q r) rs ≡ false → IsApart (insert rs (place_of rs r) r)
+apart_insert [] r some each apart none = (tt, tt)
+apart_insert (q ∷ qs) r some each apart none =
     let clear = none_meets q r qs none in
     elim (cases_Bool (ltb r.start q.start)) [
       | inl t ↦ (let before : r.start < q.start = ltb-true r.start q.start t in
-          let ends : r.start + r.len ≤ q.start = elim (clear_of q r clear.0) [ inl low ↦ low | inr high ↦ absurd (omega (arith, bounded.0.some)) ] in
+          let ends : r.start + r.len ≤ q.start = elim (clear_of q r clear.0) [ inl low ↦ low | inr high ↦ absurd (omega (arith, each.0)) ] in
           subst (λ k. IsApart (insert (q ∷ qs) k r)) (sym (first_true (λ s. ltb r.start s.start) q qs t)) ((ends, all_from (λ s. q.start + q.len ≤ s.start) (λ s. r.start + r.len ≤ s.start) qs (λ s h. omega arith) apart.0), apart))
       | inr f ↦ (let after : q.start ≤ r.start = ltb-false r.start q.start f in
           let begins : q.start + q.len ≤ r.start = elim (clear_of q r clear.0) [ inl low ↦ absurd (omega arith) | inr high ↦ high ] in
-          subst (λ k. IsApart (insert (q ∷ qs) k r)) (sym (first_false (λ s. ltb r.start s.start) q qs f)) (all_insert (λ s. q.start + q.len ≤ s.start) qs (place_of qs r) r apart.0 begins, apart_insert qs r some bounded.1 apart.1 clear.1))
+          subst (λ k. IsApart (insert (q ∷ qs) k r)) (sym (first_false (λ s. ltb r.start s.start) q qs f)) (all_insert (λ s. q.start + q.len ≤ s.start) qs (place_of qs r) r apart.0 begins, apart_insert qs r some each.1 apart.1 clear.1))
     ]
 
 -- a table with one more region
@@ -129,10 +130,10 @@ sound_insert rs cs r sound tested none =
     record {
       bounded = all_insert IsBounded rs (place_of rs r) (unlogged r) sound.bounded tested.bounded;
       backed = all_insert (λ r. IsBacked cs r) rs (place_of rs r) (unlogged r) sound.backed tested.backed;
-      apart = apart_insert rs (unlogged r) tested.bounded.some sound.bounded sound.apart none;
+      apart = apart_insert rs (unlogged r) tested.bounded.some (all_from IsBounded (λ q. 0 < q.len) rs (λ q h. h.some) sound.bounded) sound.apart none;
     }
 
-apart_remove : (rs : List Region) (k : ℕ) → IsApart rs → IsApart (remove rs k)
+pub apart_remove : (rs : List Region) (k : ℕ) → IsApart rs → IsApart (remove rs k)
 apart_remove [] zero apart = tt
 apart_remove [] (suc k) apart = tt
 apart_remove (q ∷ qs) zero apart = apart.1
@@ -174,7 +175,7 @@ bounded_with o offset size have r bounded trackable within small =
     let below : last_page r < 8 * size = trackable.below in
     record { aligned = λ l is. trackable.aligned; some = bounded.some; ends = bounded.ends; offset_ends = bounded.offset_ends; log_ends = λ l is. (let h : Some (bitmap_of r o offset) ≡ Some l = is in let same : bitmap_of r o offset ≡ l = cc in subst (λ b. last_bit r b < 2 ^ 64) same (omega arith)) }
 
-logged_with : {L : Type 0} → (len : L → ℕ) (ss : List (Stored L)) (o offset size : ℕ) (r : Region) → IsTrackable size r → offset + size ≤ log_len len ss o → IsLogged len ss (with_log o offset r)
+pub logged_with : {L : Type 0} → (len : L → ℕ) (ss : List (Stored L)) (o offset size : ℕ) (r : Region) → IsTrackable size r → offset + size ≤ log_len len ss o → IsLogged len ss (with_log o offset r)
 logged_with len ss o offset size r trackable within = λ l is. (let below : last_page r < 8 * size = trackable.below in let h : Some (bitmap_of r o offset) ≡ Some l = is in let same : bitmap_of r o offset ≡ l = cc in subst (λ b. last_bit r b < 8 * log_len len ss b.object) same (omega arith))
 
 with_all : {L : Type 0} → (len : L → ℕ) (cs : List Content) (ss : List (Stored L)) (o offset size have : ℕ) (rs : List Region) → AllByRecursion IsBounded rs → AllByRecursion (λ r. IsBacked cs r) rs → AllByRecursion (λ r. IsTrackable size r) rs → have ≡ log_len len ss o → offset + size ≤ have → have < 2 ^ 61 →

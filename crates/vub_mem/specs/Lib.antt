@@ -2,6 +2,7 @@ pub mod Answers
 pub mod Bits
 pub mod Faults
 pub mod Found
+pub mod Halving
 pub mod Laws
 pub mod LogBits
 pub mod Logs
@@ -9,6 +10,7 @@ pub mod Mappings
 pub mod Marks
 pub mod Memory
 pub mod NoPage
+pub mod Numbers
 pub mod Place
 pub mod PlaceAt
 pub mod ReadBack

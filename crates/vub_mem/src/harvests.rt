@@ -21,7 +21,7 @@ pub(crate) fn harvest_log<L: HarvestLog>(
     ensures keeps { (o : ℕ) → log_len L.byte_len logs.new o ≡ log_len L.byte_len logs.old o }
 {
     match log_place(logs, object) {
-        None => Err(LogError::GenerationsSpent),
+        None => unreachable!(),
         Some(index) => {
             let stored = &mut logs[index];
             stored.log.harvest(word)

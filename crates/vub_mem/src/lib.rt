@@ -13,10 +13,12 @@ mod mapping;
 mod marks;
 mod memory;
 mod no_bitmap;
+mod numbered;
 mod place;
 mod places;
 mod read_back;
 mod region;
+mod starts;
 mod table;
 mod track;
 

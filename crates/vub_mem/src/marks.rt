@@ -1,7 +1,8 @@
 //! Marks the pages that a write meets.
 ghost use Rattle.std.specs.Prelude.{◌≡◌, ◌≢◌, ℕ, false, ◌+◌, ◌*◌, ◌<◌, ◌^◌, ◌/◌, ◌≤◌, max, ◌==◌, ◌∷◌, [], IfSome, IfNone};
 ghost use Rattle.std.specs.List.{position, list_any, AllByRecursion};
-ghost use Rattle.vub_mem.specs.Sound.{IsBounded, IsLogged};
+ghost use Rattle.vub_mem.specs.Halving.{IsPast, StandsAt};
+ghost use Rattle.vub_mem.specs.Sound.{IsApart, IsBounded, IsLogged};
 ghost use Rattle.vub_mem.specs.Marks.{MarksOne, MarksAll, page_marks, mark_at, marks_of, page_count};
 ghost use Rattle.vub_mem.specs.Found.{IsLogPlace};
 ghost use Rattle.vub_mem.specs.Logs.{log_len, ChangesOne};
@@ -9,7 +10,7 @@ ghost use Rattle.vub_mem.specs.Track.{IsTrackable, log_fault};
 
 use crate::dirty::{DirtyLog, Stored};
 use crate::errors::LogError;
-use crate::places::region_at;
+use crate::places::region_on;
 use crate::region::Region;
 use crate::track::test_tracks;
 
@@ -51,7 +52,7 @@ pub(crate) fn load_log<L: DirtyLog>(logs: &mut [Stored<L>], object: u32, byte: u
     ensures keeps { (o : ℕ) → log_len L.byte_len logs.new o ≡ log_len L.byte_len logs.old o }
 {
     match log_place(logs, object) {
-        None => 0,
+        None => unreachable!(),
         Some(index) => {
             let stored = &mut logs[index];
             stored.log.load(byte)
@@ -121,7 +122,7 @@ fn mark_log<L: DirtyLog>(logs: &mut [Stored<L>], object: u32, page: u64)
     ensures { MarksOne (page_marks L.byte_len L.marks) logs.old (record { object = object; page = page }) logs.new }
 {
     match log_place(logs, object) {
-        None => {}
+        None => unreachable!(),
         Some(index) => {
             let stored = &mut logs[index];
             mark_one(&mut stored.log, page);
@@ -129,14 +130,15 @@ fn mark_log<L: DirtyLog>(logs: &mut [Stored<L>], object: u32, page: u64)
     }
 }
 
-/// Marks the page of an address, if its region has a log.
+/// Marks the page of an address, if its region has a log. Only the region of this place can hold the address.
 #[tactic(auto, unfolding(crate::specs::Marks::mark_at))]
-fn mark_page<L: DirtyLog>(regions: &[Region], logs: &mut [Stored<L>], addr: u64)
+fn mark_page<L: DirtyLog>(regions: &[Region], logs: &mut [Stored<L>], place: usize, addr: u64)
     requires bounded { AllByRecursion IsBounded regions.now }
+    requires stands { StandsAt regions.now addr place }
     requires logged { AllByRecursion (λ r. IsLogged L.byte_len logs.old r) regions.now }
     ensures { MarksAll (page_marks L.byte_len L.marks) logs.old (mark_at regions.now addr) logs.new }
 {
-    match region_at(regions, addr) {
+    match region_on(regions, place, addr) {
         None => {}
         Some(region) => match region.log {
             None => {}
@@ -158,21 +160,42 @@ fn count_pages(addr: u64, len: u64) -> u64
     }
 }
 
-/// Marks each page that the range meets in a region with a log.
-pub(crate) fn mark_range<L: DirtyLog>(
+/// The place of the only region from this one on that can hold the address. Those before it end at or below it.
+fn stand_from(regions: &[Region], place: usize, addr: u64) -> usize
+    requires apart { IsApart regions.now }
+    requires bounded { AllByRecursion IsBounded regions.now }
+    requires past { IsPast regions.now addr place }
+    ensures { StandsAt regions.now addr result }
+{
+    let mut on = place;
+    while on < regions.len() && regions[on].start + regions[on].len <= addr {
+        on += 1;
+    }
+    on
+}
+
+/// Marks each page that the range meets in a region with a log. Only the region of this place can hold the first
+/// address.
+pub(crate) fn mark_from<L: DirtyLog>(
     regions: &[Region],
     logs: &mut [Stored<L>],
+    place: usize,
     addr: u64,
     len: u64,
 )
     requires bounded { AllByRecursion IsBounded regions.now }
+    requires apart { IsApart regions.now }
+    requires stands { StandsAt regions.now addr place }
     requires logged { AllByRecursion (λ r. IsLogged L.byte_len logs.old r) regions.now }
     requires ends { addr + len < 2 ^ 64 }
     ensures marked { MarksAll (page_marks L.byte_len L.marks) logs.old (marks_of regions.now addr len) logs.new }
     ensures logged { AllByRecursion (λ r. IsLogged L.byte_len logs.new r) regions.now }
 {
     let count = count_pages(addr, len);
+    let mut on = place;
     for i in 0..count {
-        mark_page(regions, logs, addr.max(4096 * (addr / 4096 + i)));
+        let at = addr.max(4096 * (addr / 4096 + i));
+        on = stand_from(regions, on, at);
+        mark_page(regions, logs, on, at);
     }
 }

@@ -1,31 +1,33 @@
 //! Guest memory.
 ghost use Rattle.std.specs.Prelude.{◌≡◌, ◌≢◌, ◌↔◌, ◌⊎◌, ◌==◌, ℕ, ◌+◌, ◌-◌, ◌*◌, ◌<◌, ◌≤◌, ◌^◌, [], ◌∷◌, ◌++◌, length, true, false, if◌then◌else◌, IsTrue, IfOk, OnOk, OnErr, map, IfErr, IfSome, IfNone, MatchResult, slice_index};
-ghost use Rattle.std.specs.List.{AllByRecursion, insert, list_any};
+ghost use Rattle.std.specs.List.{AllByRecursion, insert, list_any, position};
 ghost use Rattle.std.specs.Int.{w16, w32, w64, to_le_bytes};
 
-use crate::content::Content;
 use crate::dirty::{DirtyLog, HarvestLog, Stored};
 use crate::errors::{LogError, MemError};
 use crate::harvests::harvest_log;
-use crate::marks::{is_log, load_log, log_bytes, mark_range, test_log};
+use crate::marks::{is_log, load_log, log_bytes, mark_from, test_log};
+use crate::numbered::Contents;
 use crate::place::Place;
 use crate::places::{
-    content_bytes, covers_range, is_content, locate_range, place_in, read_range, store_content,
-    u16_at, u32_at, u64_at, write_range,
+    covers_from, covers_range, locate_range, place_in, read_range, u16_at, u32_at, u64_at,
+    write_from,
 };
 use crate::region::Region;
+use crate::starts::{find_place, stand};
 use crate::table::{clear_logs, insert_place, region_place, test_insert, test_table};
 use crate::track::give_logs;
 use std::alloc::Global;
 use std::marker::Model;
-use vub_base::{Bytes, OutOfMemory};
+use std::sync::ledger::Ledger;
+use vub_base::{Bytes, OutOfMemory, Steps};
 
 /// The memory of a guest: regions of its addresses, which show numbered contents, and the numbered logs of its dirty
 /// pages. The regions stand in order of their addresses, and no two share one.
 #[derive(Drop)]
 pub struct GuestMemory<L: DirtyLog> {
     regions: Vec<Region>,
-    contents: Vec<Content>,
+    contents: Contents,
     logs: Vec<Stored<L>>,
 }
 
@@ -42,9 +44,10 @@ impl<L: DirtyLog> Model for GuestMemory<L> {
 }
 
 impl<L: DirtyLog> GuestMemory<L> {
-    ghost use Rattle.vub_mem.specs.Place.{content_of, is_numbered, covers, bytes_at, number_at, store_at, write_at};
+    ghost use Rattle.vub_mem.specs.Place.{holds, content_of, is_numbered, covers, bytes_at, number_at, store_at, write_at};
     ghost use Rattle.vub_mem.specs.PlaceAt.{place_at, RunsOn};
     ghost use Rattle.vub_mem.specs.Found.{IsLocated};
+    ghost use Rattle.vub_mem.specs.Halving.{StandsAt};
     ghost use Rattle.vub_mem.specs.Sound.{IsApart, IsBounded};
     ghost use Rattle.vub_mem.specs.Answers.{ReadsBytes};
     ghost use Rattle.vub_mem.specs.Table.{table_fault, table_answer, unlogged, insert_fault, place_of, remove_answer, without};
@@ -58,7 +61,7 @@ impl<L: DirtyLog> GuestMemory<L> {
     {
         GuestMemory {
             regions: Vec::new(alloc),
-            contents: Vec::new(alloc),
+            contents: Contents::new(alloc),
             logs: Vec::new(alloc),
         }
     }
@@ -149,7 +152,7 @@ impl<L: DirtyLog> GuestMemory<L> {
     pub fn content(&self, object: u32) -> &[u8]
         ensures { result.now ≡ content_of self.now.guest.contents object }
     {
-        content_bytes(&self.contents, object)
+        self.contents.bytes(object)
     }
 
     /// Whether a content has this number.
@@ -157,7 +160,7 @@ impl<L: DirtyLog> GuestMemory<L> {
         ensures value { result ≡ list_any (λ c. is_numbered c object) self.now.guest.contents }
         ensures absent { result ≡ false → AllByRecursion (λ c. c.object ≢ object) self.now.guest.contents }
     {
-        is_content(&self.contents, object)
+        self.contents.has(object)
     }
 
     /// Whether a log has this number.
@@ -184,6 +187,13 @@ impl<L: DirtyLog> GuestMemory<L> {
         ensures keeps { (o : ℕ) → log_len L.byte_len self.new.logs o ≡ log_len L.byte_len self.old.logs o }
     {
         load_log(&mut self.logs, object, byte)
+    }
+
+    /// The numbered logs, in the order in which they were put in.
+    pub fn logs(&self) -> &[Stored<L>]
+        ensures { result.now ≡ self.now.logs }
+    {
+        self.logs.as_slice()
     }
 
     /// Gives each region the log with this number: page `p` of the guest is bit `8 * offset + p` of it, and `size` is
@@ -227,7 +237,7 @@ impl<L: DirtyLog> GuestMemory<L> {
         }) }
         ensures err { OnErr result (self.new ≡ self.old) }
     {
-        match self.contents.push(Content { object, bytes }) {
+        match self.contents.put(object, bytes) {
             Ok(()) => Ok(()),
             Err(_) => Err(MemError::OutOfMemory),
         }
@@ -258,7 +268,16 @@ impl<L: DirtyLog> GuestMemory<L> {
         ensures regions { self.new.guest.regions ≡ self.old.guest.regions }
         ensures logs { self.new.logs ≡ self.old.logs }
     {
-        store_content(&mut self.contents, object, offset, bytes);
+        self.contents.store(object, offset as usize, bytes);
+    }
+
+    /// The place, in the list of regions, of the region that holds the address, found by halving. A step is a look at
+    /// the start of a region.
+    pub fn find<K: Ledger>(&self, addr: u64, steps: &mut Steps<K>) -> Option<usize>
+        ensures place { result ≡ position (λ r. holds r addr) self.now.guest.regions }
+        ensures steps { 2 ^ (steps.new - steps.old) ≤ 2 * length self.now.guest.regions + 1 }
+    {
+        find_place(&self.regions, addr, steps)
     }
 
     /// Where an address lies, if it lies in a region.
@@ -364,8 +383,28 @@ impl<L: DirtyLog> GuestMemory<L> {
         ensures logs { MarksAll (page_marks L.byte_len L.marks) self.old.logs
             (marks_of self.old.guest.regions addr (length bytes.now)) self.new.logs }
     {
-        write_range(&self.regions, &mut self.contents, addr, bytes);
-        mark_range(&self.regions, &mut self.logs, addr, bytes.len() as u64);
+        let place = stand(&self.regions, addr);
+        self.write_on(place, addr, bytes);
+    }
+
+    /// Writes these bytes over a range that is covered, and marks its pages. Only the region of this place can hold the
+    /// first address.
+    fn write_on(&mut self, place: usize, addr: u64, bytes: &[u8])
+        requires stands { StandsAt self.old.guest.regions addr place }
+        requires covered { covers self.old.guest.regions addr (length bytes.now) ≡ true }
+        ensures guest { self.new.guest ≡ write_at self.old.guest addr bytes.now }
+        ensures regions { self.new.guest.regions ≡ self.old.guest.regions }
+        ensures logs { MarksAll (page_marks L.byte_len L.marks) self.old.logs
+            (marks_of self.old.guest.regions addr (length bytes.now)) self.new.logs }
+    {
+        write_from(&self.regions, &mut self.contents, place, addr, bytes);
+        mark_from(
+            &self.regions,
+            &mut self.logs,
+            place,
+            addr,
+            bytes.len() as u64,
+        );
     }
 
     /// Writes these bytes, one after the other by ascending address. Each page of 4096 guest bytes that they meet in
@@ -385,10 +424,11 @@ impl<L: DirtyLog> GuestMemory<L> {
             then marks_of self.old.guest.regions addr (length bytes.now) else []) self.new.logs }
         ensures err { OnErr result (self.new ≡ self.old) }
     {
-        if !self.covers(addr, bytes.len() as u64) {
+        let place = stand(&self.regions, addr);
+        if !covers_from(&self.regions, place, addr, bytes.len() as u64) {
             return Err(MemError::Outside);
         }
-        self.write_covered(addr, bytes);
+        self.write_on(place, addr, bytes);
         Ok(())
     }
 

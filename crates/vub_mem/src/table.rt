@@ -5,21 +5,20 @@ ghost use Rattle.vub_mem.specs.Sound.{IsSound};
 ghost use Rattle.vub_mem.specs.Table.{IsTested, unlogged, meets, insert_fault, place_of, is_region};
 ghost use Rattle.vub_mem.specs.Table.{region_fault, regions_fault, pair_fault, pairs_fault, pairs_from, table_fault};
 
-use crate::content::Content;
 use crate::errors::MemError;
-use crate::places::content_bytes;
+use crate::numbered::Contents;
 use crate::region::Region;
 
 /// The first test that a region fails alone.
 #[tactic(auto, unfolding(crate::specs::Table::region_fault))]
-fn test_region(contents: &[Content], region: &Region) -> Option<MemError>
+fn test_region(contents: &Contents, region: &Region) -> Option<MemError>
     ensures value { result ≡ region_fault contents.now region.now }
     ensures tested { IfNone result (IsTested contents.now region.now) }
 {
     if region.len == 0 {
         return Some(MemError::Empty);
     }
-    let bytes = content_bytes(contents, region.object);
+    let bytes = contents.bytes(region.object);
     match region.offset.checked_add(region.len) {
         None => return Some(MemError::PastObject),
         Some(end) => {
@@ -50,7 +49,7 @@ fn test_pair(first: &Region, second: &Region) -> Option<MemError>
 }
 
 /// The first test that a region fails, by order.
-fn test_regions(contents: &[Content], regions: &[Region]) -> Option<MemError>
+fn test_regions(contents: &Contents, regions: &[Region]) -> Option<MemError>
     ensures value { result ≡ regions_fault contents.now regions.now }
     ensures tested { IfNone result (AllByRecursion (λ r. IsTested contents.now r) regions.now) }
 {
@@ -82,7 +81,7 @@ fn test_pairs(first: &Region, regions: &[Region]) -> Option<MemError>
 
 /// The first test that a table fails.
 #[tactic(auto, unfolding(crate::specs::Table::table_fault, crate::specs::Table::pairs_fault))]
-pub(crate) fn test_table(contents: &[Content], regions: &[Region]) -> Option<MemError>
+pub(crate) fn test_table(contents: &Contents, regions: &[Region]) -> Option<MemError>
     ensures value { result ≡ table_fault contents.now regions.now }
     ensures tested { IfNone result (IsSound (record { regions = map unlogged regions.now; contents = contents.now })) }
 {
@@ -116,7 +115,7 @@ fn meets_any(regions: &[Region], region: &Region) -> bool
 /// The first test that a region fails that is to enter the table.
 #[tactic(auto, unfolding(crate::specs::Table::insert_fault))]
 pub(crate) fn test_insert(
-    contents: &[Content],
+    contents: &Contents,
     regions: &[Region],
     region: &Region,
 ) -> Option<MemError>

@@ -1,6 +1,11 @@
+ghost use Rattle.std.specs.Prelude.{◌≡◌, ◌+◌, ◌<◌, ◌≤◌, length};
+
 use crate::{Bytes, GuestMemory, LogError, Mapping, MemError, MemRegionBitmap, Region, va_to_gpa};
 use std::alloc::Global;
+use std::marker::Brand;
+use std::sync::ledger::{Blank, Ledger};
 use std::test::Fail;
+use vub_base::Steps;
 
 /// A memory with the content 7 of 0x4000 zeros, and no region.
 fn memory(alloc: Global) -> Result<GuestMemory<()>, MemError> {
@@ -169,4 +174,83 @@ fn no_bitmap_tracks_nothing(rt: HostRuntime) {
         made::<()>(&region(0, 0x1000, 0)),
         Err(LogError::Unsupported)
     );
+}
+
+/// A look-up in a table of seven regions costs at most three steps.
+#[tactic(auto, using(crate::proofs::Halving::seven_in_three))]
+fn find_in_seven<K: Ledger>(
+    memory: &GuestMemory<()>,
+    addr: u64,
+    steps: &mut Steps<K>,
+) -> Option<usize>
+    requires { length memory.now.guest.regions ≡ 7 }
+    ensures { steps.new ≤ steps.old + 3 }
+{
+    memory.find(addr, steps)
+}
+
+/// A look-up in an empty table costs no step.
+#[tactic(auto, using(crate::proofs::Halving::none_in_none))]
+fn find_in_none<K: Ledger>(
+    memory: &GuestMemory<()>,
+    addr: u64,
+    steps: &mut Steps<K>,
+) -> Option<usize>
+    requires { length memory.now.guest.regions ≡ 0 }
+    ensures { steps.new ≤ steps.old }
+{
+    memory.find(addr, steps)
+}
+
+fn find_with<K: Ledger>(memory: &GuestMemory<()>, addr: u64, blank: Blank) -> Option<usize>
+    requires name { blank.name ≡ K.name }
+    requires parts { blank.parts ≡ K.parts }
+    requires some { 0 < K.parts }
+{
+    let mut steps = Steps::<K>::new(blank);
+    match memory.regions().len() {
+        7 => find_in_seven(memory, addr, &mut steps),
+        0 => find_in_none(memory, addr, &mut steps),
+        _ => memory.find(addr, &mut steps),
+    }
+}
+
+fn find(memory: &GuestMemory<()>, addr: u64) -> Option<usize> {
+    find_with::<Brand>(memory, addr, Blank::new(1))
+}
+
+#[test]
+fn halving_finds_each_region(rt: HostRuntime) -> Result<(), Fail> {
+    let mut memory = memory(rt.alloc())?;
+    assert_eq!(rt; find(&memory, 0), None);
+    let table = [
+        region(0x1000, 0x800, 0),
+        region(0x2000, 0x800, 0),
+        region(0x3000, 0x800, 0),
+        region(0x5000, 0x800, 0),
+        region(0x7000, 0x800, 0),
+        region(0x8000, 0x800, 0),
+        region(0x9000, 0x800, 0),
+    ];
+    replace(rt.alloc(), &mut memory, &table)?;
+    for (addr, place) in [
+        (0, None),
+        (0xfff, None),
+        (0x1000, Some(0)),
+        (0x17ff, Some(0)),
+        (0x1800, None),
+        (0x2000, Some(1)),
+        (0x37ff, Some(2)),
+        (0x4000, None),
+        (0x5000, Some(3)),
+        (0x77ff, Some(4)),
+        (0x8000, Some(5)),
+        (0x9000, Some(6)),
+        (0x97ff, Some(6)),
+        (0x9800, None),
+        (u64::MAX, None),
+    ] {
+        assert_eq!(rt; find(&memory, addr), place);
+    }
+    Ok(())
 }

@@ -6,7 +6,6 @@ use Rattle.vub_queue.specs.declared.damage.Damage.{Damage}
 use Rattle.vub_queue.specs.declared.putting.PutFault.{PutFault}
 use Rattle.vub_queue.specs.declared.took.Took.{Took}
 use Rattle.vub_queue.specs.declared.took.Took.TheVariants as took
-use Rattle.vub_queue.specs.Take.{guest_taken}
 use Rattle.vub_event.specs.HostTable.{members_at}
 use Rattle.vub_event.specs.InterestList.{member_of}
 use Rattle.vub_model.specs.declared.cause.StopCause.TheVariants.{Exit}
@@ -21,7 +20,7 @@ use Rattle.vub_model.specs.declared.phase.Phase.TheVariants.{Idle, Polled, Sweep
 use Rattle.vub_model.specs.RingRecord.{is_on}
 use Rattle.vub_model.specs.Shared.{Shared, ring_at, count_at, counter_read, is_ready}
 use Rattle.vub_model.specs.Wiring.{Wiring, opened_at, queues_of}
-use Rattle.vub_model.specs.Work.{Local, MayWork, after_event, after_kick, after_bell, after_listener, after_heard, stopped, after_take, after_took, after_none, is_object, has_token, may_take, looked}
+use Rattle.vub_model.specs.Work.{published, Local, MayWork, after_event, after_kick, after_bell, after_listener, after_heard, stopped, after_take, after_took, after_none, is_object, has_token, may_take, looked}
 use Rattle.vub_model.specs.declared.cause.Why.{Why}
 
 -- a worker's step is one of seven
@@ -107,10 +106,10 @@ module _ {V : Type 0} (h : Shared V) (P : Local V → Type 0) where
 
 -- a Take that finds nothing leaves what is held, but for avail_event
 pub none-leaf : {V : Type 0} (h : Shared V) (Q : Shared V → Type 0) (q : ℕ)
-    → (may_take (ring_at h q) ≡ true → Q (record h { guest = guest_taken h.guest (ring_at h q).queue took.None }))
+    → (may_take (ring_at h q) ≡ true → Q (published h (ring_at h q).queue))
     → (may_take (ring_at h q) ≡ false → Q h)
     → Q (after_none h q)
-none-leaf {V} h Q q tells stays = cond_both {A = Shared V} (may_take (ring_at h q)) (record h { guest = guest_taken h.guest (ring_at h q).queue took.None }) h Q tells stays
+none-leaf {V} h Q q tells stays = cond_both {A = Shared V} (may_take (ring_at h q)) (published h (ring_at h q).queue) h Q tells stays
 
 -- an Event leaves what is held, or reads one counter
 pub event-shared : {V : Type 0} (g : Wiring) (k : ℕ) (h : Shared V) (Q : Shared V → Type 0) (object token : ℕ) → Q h → ((o : ℕ) → Q (counter_read h o)) → Q (after_event g k h object token).shared

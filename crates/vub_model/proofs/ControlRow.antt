@@ -31,7 +31,7 @@ play-on [] w = w
 play-on (t ∷ ts) w = play-on ts (play-first w w.control.plan.steps)
 
 abbrev constants : Constants
-constants = record { queues = 1; max = 256; features = 0x164000000; protocol = 0x20a; masks = 1 ∷ []; exits = None ∷ [] }
+constants = record { queues = 1; max = 256; features = 0x164000000; protocol = 0x20a; tracks = false; masks = 1 ∷ []; exits = None ∷ [] }
 
 -- event 0 is to be the kick; the bell is event 1
 abbrev setup : Setup

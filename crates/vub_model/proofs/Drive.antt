@@ -1,11 +1,12 @@
--- What a loop that plays a run may rely on at each turn: what the next step of control names is there, a request that is
--- yet to begin has the same plan after a turn of another party, and control has no step exactly where its plan is at its
--- end or waits.
-use Rattle.std.proofs.Common.{◌≡◌, ◌↔◌, ℕ, ◌<◌, Bool, true, false, List, [], ◌∷◌, length, Option, Some, None, is_some, refl, sym, ap, ◌∙◌, subst}
+-- What a loop that plays a run may rely on at each turn: what the next step of control names is there, a harvest that is
+-- next can be made, a request that is yet to begin has the same plan after a turn of another party, and control has no
+-- step exactly where its plan is at its end or waits.
+use Rattle.std.proofs.Common.{arith, ◌≡◌, ◌↔◌, ℕ, ◌*◌, ◌<◌, Bool, true, false, List, [], ◌∷◌, length, Option, Some, None, is_some, refl, sym, ap, ◌∙◌, subst}
 use Rattle.std.specs.List.{AllByRecursion}
 use Rattle.std.proofs.Math.ListN.{get_or-map}
 use Rattle.vub_event.specs.declared.event.Event.{Event}
 use Rattle.vub_event.specs.HostTable.{event_at}
+use Rattle.vub_log.specs.Plain.{harvest_count}
 use Rattle.vub_proto.specs.declared.device_said.DeviceSaid.{DeviceSaid}
 use Rattle.vub_proto.specs.declared.request.Request.{Request}
 use Rattle.vub_proto.specs.declared.request.Request.TheVariants as request
@@ -15,11 +16,13 @@ use Rattle.vub_model.specs.declared.party.Party.TheVariants as party
 use Rattle.vub_model.specs.declared.play.Play.{Play}
 use Rattle.vub_model.specs.declared.play.Play.TheVariants as play
 use Rattle.vub_model.specs.declared.setup.Guest.{Guest}
+use Rattle.vub_model.specs.declared.setup.Guest.TheVariants.{Harvest}
 use Rattle.vub_model.specs.declared.setup.Setup.{Setup}
 use Rattle.vub_model.specs.declared.small.Small.{Small}
 use Rattle.vub_model.specs.declared.small.Small.TheVariants.{Claim, Add, Delete, Listen, Unlisten}
 use Rattle.vub_model.specs.Control.{Control, waits_now, StandsStill, MayControl, tail_of, begun, begun_from, played}
 use Rattle.vub_model.specs.Frame.{Frame, claim_of, frame_of, is_there}
+use Rattle.vub_model.specs.Logs.{log_at}
 use Rattle.vub_model.specs.Opening.{opening, wiring_of, new_control}
 use Rattle.vub_model.specs.Plans.{plan_of}
 use Rattle.vub_model.specs.RunOf.{HasNoStep, Turn}
@@ -30,6 +33,7 @@ use Rattle.vub_model.specs.ValidSetup.{IsValid}
 use Rattle.vub_model.specs.Wiring.{Wiring, opened_at}
 use Rattle.vub_model.specs.World.{World, phase_at, May, after, after_guest, after_control}
 use Rattle.vub_model.proofs.FrameSmall.{frame-small}
+use Rattle.vub_model.proofs.LogSound.{CanHarvest}
 use Rattle.vub_model.proofs.OpeningMeets.{requests-fit}
 use Rattle.vub_model.proofs.Resting.{some-outcome, may-say}
 use Rattle.vub_model.proofs.SchedWork.{claim-event}
@@ -104,6 +108,17 @@ module _ {V : Type 0} (n : ℕ) (w : World V) (sound : IsSound n w) where
 
   pub claim-there : (o queue : ℕ) → First w.control.plan.steps (Claim o queue) → is_there (frame_of w.shared) o ≡ true
   claim-there o queue first = (fits-first w sound.calm sound.invariant (Claim o queue) first).1
+
+-- What the guest harvests
+
+module _ {V : Type 0} (n : ℕ) (w : World V) (sound : IsSound n w) (object word : ℕ) (actions : List Guest) (next : w.guest ≡ Harvest object word ∷ actions) where
+  -- a harvest that is next is of a word that its log has
+  pub harvest-has : 4 * word < (log_at w.shared.logs object).len
+  harvest-has = let P : List Guest → Type 0 = λ l. AllByRecursion (CanHarvest w.shared.logs) l in (subst P next sound.logs.able).0
+
+  -- which was not harvested as often as it can be
+  pub harvest-left : harvest_count (log_at w.shared.logs object) word < 4294967295
+  harvest-left = omega (arith, sound.logs.counted object word, sound.logs.few)
 
 -- What a turn leaves
 

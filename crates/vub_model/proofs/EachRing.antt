@@ -8,7 +8,7 @@ use Rattle.vub_model.specs.declared.play.Play.TheVariants as play
 use Rattle.vub_model.specs.declared.phase.Phase.{Phase}
 use Rattle.vub_model.specs.declared.ring_op.RingOp.TheVariants as op
 use Rattle.vub_model.specs.declared.setup.Guest.{Guest}
-use Rattle.vub_model.specs.declared.setup.Guest.TheVariants.{Store, Signal}
+use Rattle.vub_model.specs.declared.setup.Guest.TheVariants.{Store, Signal, Harvest}
 use Rattle.vub_model.specs.declared.small.Small.{Small}
 use Rattle.vub_model.specs.RingRecord.{Vring, changed, ring_after}
 use Rattle.vub_model.specs.Shared.{Shared, ring_at, with_ring}
@@ -80,6 +80,7 @@ module _ (P : Vring → Type 0) (keeps : KeptByWrites P) where
     guest-kept : (actions : List Guest) → AllRings P (after_guest w actions).shared
     guest-kept [] = all
     guest-kept (Store object offset bytes ∷ actions) = all
+    guest-kept (Harvest object word ∷ actions) = all
     guest-kept (Signal object ∷ actions) = all
 
     small-kept : (s : Small) (said : DeviceSaid) → MayControl w.shared w.control.plan.steps s said → AllRings P (small_after w.wiring w.shared s)

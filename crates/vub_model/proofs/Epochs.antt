@@ -16,7 +16,7 @@ use Rattle.vub_model.specs.declared.records.Take.{Take}
 use Rattle.vub_model.specs.declared.ring_op.RingOp.{RingOp}
 use Rattle.vub_model.specs.declared.ring_op.RingOp.TheVariants as op
 use Rattle.vub_model.specs.declared.setup.Guest.{Guest}
-use Rattle.vub_model.specs.declared.setup.Guest.TheVariants.{Store, Signal}
+use Rattle.vub_model.specs.declared.setup.Guest.TheVariants.{Store, Signal, Harvest}
 use Rattle.vub_model.specs.declared.small.Small.{Small}
 use Rattle.vub_model.specs.declared.small.Small.TheVariants.{Claim, Release, Add, Delete, Listen, Unlisten, Bell, Remove, Insert, Set, Info, Table, Log, Device, Answer as Answering}
 use Rattle.vub_model.specs.RingRecord.{Vring, waits, based, limit, ring_after}
@@ -232,6 +232,7 @@ module _ {V : Type 0} (w : World V) (calm : ℕ → Bool) (i : Invariant w calm)
   guest-from : (actions : List Guest) → AllFrom (after_guest w actions) (λ q. bases q ++ [])
   guest-from [] q = no-base q (ring_at h q) refl refl
   guest-from (Store object offset bytes ∷ actions) q = no-base q (ring_at h q) refl refl
+  guest-from (Harvest object word ∷ actions) q = no-base q (ring_at h q) refl refl
   guest-from (Signal object ∷ actions) q = no-base q (ring_at h q) refl refl
 
   pub step-from : (m : Meaning V) (p : Party) (l : Play) → May w p l → AllFrom (after m w p l) (λ q. bases q ++ given_by w p l q)

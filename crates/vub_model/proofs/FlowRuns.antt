@@ -16,7 +16,7 @@ use Rattle.vub_model.specs.declared.phase.Phase.{Phase}
 use Rattle.vub_model.specs.declared.phase.Phase.TheVariants.{Idle, Sweep, Heard, Taken, Served, Stopped}
 use Rattle.vub_model.specs.declared.records.Take.{Take}
 use Rattle.vub_model.specs.declared.setup.Guest.{Guest}
-use Rattle.vub_model.specs.declared.setup.Guest.TheVariants.{Store, Signal}
+use Rattle.vub_model.specs.declared.setup.Guest.TheVariants.{Store, Signal, Harvest}
 use Rattle.vub_model.specs.Shared.{Shared, ring_at}
 use Rattle.vub_model.specs.Service.{Meaning}
 use Rattle.vub_model.specs.Wiring.{HasWorker, Wiring}
@@ -73,6 +73,7 @@ module _ {V : Type 0} (m : Meaning V) (w : World V) (calls : List Asked) (flow :
   flow-guest : (actions : List Guest) → Flow (after_guest w actions) (calls ++ [])
   flow-guest [] = rw (append-nil calls) flow
   flow-guest (Store object offset bytes ∷ actions) = rw (append-nil calls) flow
+  flow-guest (Harvest object word ∷ actions) = rw (append-nil calls) flow
   flow-guest (Signal object ∷ actions) = rw (append-nil calls) flow
 
   -- a control step moves no entry
@@ -168,6 +169,7 @@ module _ {V : Type 0} (m : Meaning V) (w : World V) where
   replay-guest : (actions : List Guest) → SameService (after_guest w actions).shared
   replay-guest [] = refl
   replay-guest (Store object offset bytes ∷ actions) = refl
+  replay-guest (Harvest object word ∷ actions) = refl
   replay-guest (Signal object ∷ actions) = refl
 
   replay-step : (p : Party) (l : Play) → May w p l → IsReplay m w.shared.service (asked_at m w p l) (after m w p l).shared.service

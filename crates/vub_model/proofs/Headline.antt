@@ -22,8 +22,10 @@ use Rattle.vub_model.proofs.Epochs.{epochs-from, opening-from}
 use Rattle.vub_model.proofs.FirstPlaces.{places-first}
 use Rattle.vub_model.proofs.FlowRuns.{replay-run, Goes, flow-goes, fresh-flow}
 use Rattle.vub_model.proofs.Live.{takes-are-live}
+use Rattle.vub_model.proofs.LogRuns.{logs-kept}
 use Rattle.vub_model.proofs.NoneLost.{none-lost}
 use Rattle.vub_model.proofs.Numbers.{fresh-numbered}
+use Rattle.vub_model.proofs.OpeningLogs.{none-stands}
 use Rattle.vub_model.proofs.Openings.{opening-is-fresh}
 use Rattle.vub_model.proofs.OpeningSound.{first-base, opening-sound}
 use Rattle.vub_model.proofs.RepliesStand.{keeps-entry, uses-reply}
@@ -67,6 +69,7 @@ module _ {V : Type 0} (m : Meaning V) (constants : Constants) (setup : Setup) (v
           stand = each-sound m UsesItsReply (λ n w p l z s turn. uses-reply m w p l z turn) turns plays w z sound run;
         };
         confined = run-is-confined m turns plays w;
+        logged = logs-kept m turns plays w z sound.logs (none-stands constants setup v) run;
         plans = follows-plans m turns plays w z sound run;
         places = places-first (wiring_of constants (length setup.objects));
         bells = bells-ring m turns plays w z sound run;

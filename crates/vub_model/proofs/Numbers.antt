@@ -14,7 +14,7 @@ use Rattle.vub_model.specs.declared.phase.Phase.TheVariants.{Idle, Polled, Sweep
 use Rattle.vub_model.specs.declared.records.Take.{Take}
 use Rattle.vub_model.specs.declared.ring_op.RingOp.TheVariants as op
 use Rattle.vub_model.specs.declared.setup.Guest.{Guest}
-use Rattle.vub_model.specs.declared.setup.Guest.TheVariants.{Store, Signal}
+use Rattle.vub_model.specs.declared.setup.Guest.TheVariants.{Store, Signal, Harvest}
 use Rattle.vub_model.specs.RingRecord.{Vring, closed_ring, changed, ring_after}
 use Rattle.vub_model.specs.Shared.{Shared, ring_at}
 use Rattle.vub_model.specs.Service.{Meaning}
@@ -130,6 +130,7 @@ module _ {V : Type 0} (m : Meaning V) (w : World V) (numbered : Numbered w) wher
   number-guest : (actions : List Guest) → Numbered (after_guest w actions)
   number-guest [] = numbered
   number-guest (Store object offset bytes ∷ actions) = numbered
+  number-guest (Harvest object word ∷ actions) = numbered
   number-guest (Signal object ∷ actions) = numbered
 
   module _ (control : (s : Small) (said : DeviceSaid) → MayControl w.shared w.control.plan.steps s said → Numbered (after_control w s said)) where

@@ -32,7 +32,7 @@ use Rattle.vub_model.specs.Shared.{Shared, ring_at, count_at, pending_at, has_nu
 use Rattle.vub_model.specs.Wiring.{Wiring, opened_at, no_worker, place_of, IsPlaced}
 use Rattle.vub_model.specs.World.{phase_at}
 use Rattle.vub_model.specs.Work.{is_object}
-use Rattle.vub_model.specs.ValidSetup.{or_else, is_event, is_event_or_none, is_free, is_free_or_none, is_first_of_queue, is_aligned, ring_is_sound, ring_fault, device_fault, exit_fault, is_greatest_size, region_fault, given_table_fault, is_answerable, request_fault, guest_fault, fault_of, IsValid}
+use Rattle.vub_model.specs.ValidSetup.{or_else, is_event, is_event_or_none, is_free, is_free_or_none, is_first_of_queue, is_aligned, ring_is_sound, ring_fault, device_fault, exit_fault, is_greatest_size, region_fault, given_table_fault, is_answerable, request_fault, guest_fault, log_object_fault, fault_of, IsValid}
 use Rattle.vub_model.specs.Opening.{flags_of, opening_events, opened_worker, wiring_of, listed, exit_member, opening_members, given_vring, ring_from, opening_rings, claimed, joined, placed, registered_kick, registered, opening_table, before_rings, opening, is_registered, new_control}
 use Rattle.vub_model.specs.Schedule.{IsKick, IsBellOrExit, IsOwn, known_at, claim_at, is_member, Linked, Settled, PhaseFits, HasInHand, ringing, waiting, Invariant, Wired, IsListener, NoBell, RequestFits}
 use Rattle.vub_model.proofs.Places.{place-is}
@@ -47,20 +47,22 @@ unless-none : (b : Bool) (fault : SetupFault) (rest : Option SetupFault) → con
 unless-none true fault rest is = absurd cc
 unless-none false fault rest is = (refl, is)
 
-or-parts : (a b : Option SetupFault) → or_else a b ≡ None → (a ≡ None) × (b ≡ None)
+pub or-parts : (a b : Option SetupFault) → or_else a b ≡ None → (a ≡ None) × (b ≡ None)
 or-parts None b is = (refl, is)
 or-parts (Some x) b is = absurd cc
 
 -- each part of a valid set-up is without a fault
-record FailsNone (constants : Constants) (setup : Setup) : Type 0 where
-  device : device_fault constants setup.objects ≡ None
-  rings : ring_fault constants setup.objects [] setup.rings ≡ None
-  requests : request_fault constants setup.objects setup.requests ≡ None
+pub record FailsNone (constants : Constants) (setup : Setup) : Type 0 where
+  pub device : device_fault constants setup.objects ≡ None
+  pub table : given_table_fault setup.objects setup.regions ≡ None
+  pub rings : ring_fault constants setup.objects [] setup.rings ≡ None
+  pub requests : request_fault constants setup.objects setup.requests ≡ None
+  pub guest : guest_fault setup.objects setup.guest ≡ None
 
-fails-none : (constants : Constants) (setup : Setup) → IsValid constants setup → FailsNone constants setup
+pub fails-none : (constants : Constants) (setup : Setup) → IsValid constants setup → FailsNone constants setup
 unfolding fault_of
 fails-none constants setup valid =
-    let guest = guest_fault setup.objects setup.guest in
+    let guest = or_else (guest_fault setup.objects setup.guest) (log_object_fault setup.objects) in
     let requests = request_fault constants setup.objects setup.requests in
     let rings = ring_fault constants setup.objects [] setup.rings in
     let table = given_table_fault setup.objects setup.regions in
@@ -70,7 +72,9 @@ fails-none constants setup valid =
     let second = or-parts region (or_else table (or_else rings (or_else requests guest))) first.1 in
     let third = or-parts table (or_else rings (or_else requests guest)) second.1 in
     let fourth = or-parts rings (or_else requests guest) third.1 in
-    record { device = first.0; rings = fourth.0; requests = (or-parts requests guest fourth.1).0 }
+    let fifth = or-parts requests guest fourth.1 in
+    let sixth = or-parts (guest_fault setup.objects setup.guest) (log_object_fault setup.objects) fifth.1 in
+    record { device = first.0; table = third.0; rings = fourth.0; requests = fifth.0; guest = sixth.0 }
 
 -- the greatest size of a queue is a power of two, and no greater than 32768
 pub greatest-size : (constants : Constants) (setup : Setup) → IsValid constants setup → (is_power_of_two constants.max ≡ true) × (constants.max ≤ 32768)
@@ -95,14 +99,14 @@ none-here p (x ∷ xs) past =
       | inr f ↦ (let next : position_or_len p (x ∷ xs) ≡ suc (position_or_len p xs) = rw f (omega arith) in (f, none-here p xs (omega arith)))
     ]
 
-none-passes : {X : Type 0} (p : X → Bool) (xs : List X) → position p xs ≡ None → AllByRecursion (λ x. p x ≡ false) xs
+pub none-passes : {X : Type 0} (p : X → Bool) (xs : List X) → position p xs ≡ None → AllByRecursion (λ x. p x ≡ false) xs
 none-passes p xs is =
     elim (cases_Bool (ltb (position_or_len p xs) (length xs))) [
       | inl t ↦ absurd (let h : Some (position_or_len p xs) ≡ None = sym (cond-true (ltb (position_or_len p xs) (length xs)) (Some (position_or_len p xs)) None t) ∙ is in cc)
       | inr f ↦ none-here p xs (ltb-false (position_or_len p xs) (length xs) f)
     ]
 
-map-none : {X Y : Type 0} (f : X → Y) (o : Option X) → option_map f o ≡ None → o ≡ None
+pub map-none : {X Y : Type 0} (f : X → Y) (o : Option X) → option_map f o ≡ None → o ≡ None
 map-none f None is = refl
 map-none f (Some x) is = absurd cc
 

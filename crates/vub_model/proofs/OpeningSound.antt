@@ -15,6 +15,7 @@ use Rattle.vub_model.specs.RingRecord.{Vring, closed_ring, limit}
 use Rattle.vub_model.specs.Shared.{ring_at}
 use Rattle.vub_model.specs.ValidSetup.{IsValid}
 use Rattle.vub_model.proofs.Numbers.{fresh-numbered}
+use Rattle.vub_model.proofs.OpeningLogs.{opening-logs}
 use Rattle.vub_model.proofs.Openings.{opening-is-fresh}
 use Rattle.vub_model.proofs.OpeningMeets.{IsSoundSize, rings-sound, given-sound, greatest-size, found-in, opening-ring, opening-meets, opening-untaken}
 use Rattle.vub_model.proofs.Sized.{IsSized}
@@ -62,4 +63,5 @@ module _ {V : Type 0} (constants : Constants) (setup : Setup) (v : V) (valid : I
     counted = by-ring (λ given r. IsCounted r) refl (λ q. counted-from (found q));
     sized = by-ring (λ given r. IsSized r) (record { power = one-power; below = omega arith; few = omega arith }) (λ q. sized-from q (found q) refl);
     numbered = fresh-numbered (opening constants setup v) (opening-is-fresh constants setup v);
+    logs = opening-logs constants setup v valid;
   }

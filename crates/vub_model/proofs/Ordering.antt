@@ -1,5 +1,6 @@
 -- The control labels of every run are the plans' steps in order.
 use Rattle.std.proofs.Common.{◌≡◌, ℕ, Bool, true, false, cond, ◌⊎◌, inl, inr, List, [], ◌∷◌, ◌++◌, Option, Some, None, refl, sym, ap, ◌∙◌, subst}
+use Rattle.vub_mem.specs.declared.errors.LogError.{LogError}
 use Rattle.vub_mem.specs.declared.errors.MemError.{MemError}
 use Rattle.vub_mem.specs.declared.region.Region.{Region}
 use Rattle.vub_proto.specs.declared.answer.Answer.TheVariants as answer
@@ -19,7 +20,7 @@ use Rattle.vub_model.specs.Frame.{Frame, frame_of}
 use Rattle.vub_model.specs.Shared.{Shared}
 use Rattle.vub_model.specs.Wiring.{Wiring, opened_at}
 use Rattle.vub_model.specs.Plans.{Plan}
-use Rattle.vub_model.specs.Control.{Control, instead, told, drop_two, tail_of, after_refusal, can_claim, can_add, can_listen, can_unlisten, used_index_covers, table_refusal, rest_after, begun_from, played, small_after, MayControl}
+use Rattle.vub_model.specs.Control.{Control, instead, told, drop_two, tail_of, after_refusal, after_log_refusal, log_refusal, can_claim, can_add, can_listen, can_unlisten, used_index_covers, table_refusal, rest_after, begun_from, played, small_after, MayControl}
 use Rattle.vub_model.specs.Service.{Meaning}
 use Rattle.vub_model.specs.World.{World, May, after, after_guest, after_control}
 use Rattle.vub_model.specs.RunOf.{party_of, IsRun}
@@ -47,7 +48,10 @@ may-leave g h (Bell o) said p = refl
 may-leave g h (Remove k n) said p = refl
 may-leave g h (Insert k n) said p = refl
 may-leave g h (Set q o) said p = refl
-may-leave g h (Log o offset size) said p = refl
+may-leave g h (Log o offset size) said p = refused (log_refusal g h o offset size) where
+  refused : (e : Option LogError) → (after_log_refusal e p ≡ p) ⊎ ((x : LogError) × (after_log_refusal e p ≡ instead (answer.Failed (error.ReqHandlerError (cause.Log x))) p))
+  refused None = inl refl
+  refused (Some e) = inr (e, refl)
 may-leave g h Answering said p = refl
 
 none-played : (g : Wiring) (plan : Plan) (requests : List Request) → InOrder g plan requests []

@@ -11,7 +11,7 @@ use Rattle.vub_model.specs.Plans.{plan_of}
 
 -- one queue of worker 0, whose list is 0, and whose bell is event 3
 one : Wiring
-one = record { queues = 1; max = 256; features = 0x164000000; protocol = 0x20a; masks = 4294967295 ∷ []; opened = record { worker = 0; list = 0; bell = 3; exit = None } ∷ [] }
+one = record { queues = 1; max = 256; features = 0x164000000; protocol = 0x20a; tracks = false; masks = 4294967295 ∷ []; opened = record { worker = 0; list = 0; bell = 3; exit = None } ∷ [] }
 
 abbrev frame : Option ℕ → Bool → Bool → Frame
 frame kick ready enabled = record { known = record { kick = kick; ready = ready; enabled = enabled } ∷ []; lists = [] ∷ []; claims = None ∷ None ∷ None ∷ None ∷ []; events = false ∷ true ∷ true ∷ true ∷ [] }

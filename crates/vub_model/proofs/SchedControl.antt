@@ -1,7 +1,7 @@
 -- A control step keeps the schedule invariant.
 use Rattle.std.proofs.Common.{◌≡◌, ◌≢◌, ℕ, ◌<◌, Bool, true, false, cond, not, ◌&&◌, ◌⊎◌, inl, inr, List, [], ◌∷◌, length, Option, Some, None, is_some, refl, sym, ap, ◌∙◌, subst, arith, eqb, slice_set, slice_index_or}
 use Rattle.std.proofs.lemmas.List.{get_or-set_same, get_or-set_other, get_or_past, set_past, length-set}
-use Rattle.std.proofs.lemmas.Bool.{cases_eq, cases_lt}
+use Rattle.std.proofs.lemmas.Bool.{cases_eq, cases_lt, and_parts, eqb-true}
 use Rattle.vub_mem.specs.declared.errors.MemError.{MemError}
 use Rattle.vub_proto.specs.declared.device_said.DeviceSaid.{DeviceSaid}
 use Rattle.vub_model.specs.declared.flight.Flight.TheVariants as flight
@@ -12,11 +12,12 @@ use Rattle.vub_model.specs.declared.ring_op.RingOp.TheVariants as op
 use Rattle.vub_model.specs.declared.small.Small.{Small}
 use Rattle.vub_model.specs.declared.small.Small.TheVariants.{Claim, Release, Add, Delete, Listen, Unlisten, Bell, Remove, Insert, Set, Info, Table, Log, Device, Answer as Answering}
 use Rattle.vub_model.specs.declared.wiring.Known.{Known}
+use Rattle.vub_queue.specs.Layout.{avail_index_at}
 use Rattle.vub_model.specs.RingRecord.{Vring, is_in_flight, waits, fits, changed, ring_after, is_on, has_addresses}
 use Rattle.vub_model.specs.EntryNumber.{has_left}
 use Rattle.vub_model.specs.Shared.{Shared, ring_at, with_ring, pending_at, has_number, with_number, without_number, inserted, removed}
 use Rattle.vub_model.specs.Plans.{Plan, regions_after}
-use Rattle.vub_model.specs.Control.{MayControl, small_after, waits_now, next_used_at, tail_of, table_refusal, regions_unless}
+use Rattle.vub_model.specs.Control.{MayControl, small_after, waits_now, next_used_at, tail_of, table_refusal, regions_unless, log_refusal}
 use Rattle.vub_model.specs.Frame.{Frame, known_of, frame_of, list_at, is_member}
 use Rattle.vub_model.specs.FrameSteps.{known_after}
 use Rattle.vub_model.specs.Wiring.{Wiring, opened_at, IsPlaced}
@@ -25,7 +26,8 @@ use Rattle.vub_model.specs.Running.{HasStopped, index_word, calm_after}
 use Rattle.vub_model.specs.Schedule.{IsNumber, SetFits, Quiet, IsKickAt, First, signalled, waiting, listed, Invariant}
 use Rattle.vub_model.proofs.Places.{one-queue}
 use Rattle.vub_model.proofs.Settings.{set-leaves, info-leaves}
-use Rattle.vub_model.proofs.Counting.{field-kept, ring-own, ring-other}
+use Rattle.vub_model.proofs.Counting.{field-kept, ring-own, ring-other, left-covered}
+use Rattle.vub_model.proofs.LoggedTable.{logged-covers}
 use Rattle.vub_model.proofs.Registering.{number-own, number-kept, number-from}
 use Rattle.vub_model.proofs.Waking.{woken-by}
 use Rattle.vub_model.proofs.SchedWork.{known-ring, kick-ring}
@@ -305,10 +307,24 @@ module _ {V : Type 0} (w : World V) (calm : ℕ → Bool) (i : Invariant w calm)
         by q j m x at goes kick member on has (Some e) refusal calm_now left_one =
             quiet-woken w calm i said (Table change) is refl q j m x (λ e. absurd cc) (λ e. absurd cc) (λ h. h) (old-woken w calm i said (Table change) is refl q j m x at goes kick member on has (calm-of false (calm q) _ calm_now) left_one)
 
+  by-log : (object offset size : ℕ) → (is : w.control.plan.steps ≡ Log object offset size ∷ left.steps) → Invariant (after_control w (Log object offset size) said) (calm_after w party.Control (play.Control (Log object offset size) said) (after_control w (Log object offset size) said) calm)
+  by-log object offset size is =
+      close w calm i said (Log object offset size) is refl refl refl (λ q. refl) (λ q has. has) (λ q flies on. on) (λ k n has. inl has)
+      (λ k below some old. quiet-rung w calm i said (Log object offset size) is refl k (λ e. absurd cc) (old some))
+      (λ q j m x at goes kick member on has calm_now left_one.
+      quiet-woken w calm i said (Log object offset size) is refl q j m x (λ e. absurd cc) (λ e. absurd cc) (λ h. h)
+      (old-woken w calm i said (Log object offset size) is refl q j m x at goes kick (same-lists w calm i said (Log object offset size) is refl refl j x member) on has (calm-of false (calm q) _ calm_now) (was-left q (and_parts (calm q) _ calm_now).1 left_one))) where
+        z : Shared V
+        z = small_after g h (Log object offset size)
+
+        was-left : (q : ℕ) → eqb (index_word z q) (index_word h q) ≡ true → has_left z.guest (ring_at h q) ≡ true → has_left h.guest (ring_at h q) ≡ true
+        was-left q word left =
+            sym (left-covered z h q (logged-covers (log_refusal g h object offset size) object offset h.guest.regions (avail_index_at (ring_at h q).queue) 2) (eqb-true (index_word z q) (index_word h q) word)) ∙ left
+
   by-kind : (s : Small) → w.control.plan.steps ≡ s ∷ left.steps → waits_now h s ≡ false → Invariant (after_control w s said) (calm_after w party.Control (play.Control s said) (after_control w s said) calm)
   by-kind (Claim x p) is ready = quiet-close w calm i said (Claim x p) is ready refl refl refl (λ q k n o below at kick member c. still w calm i said (Claim x p) is ready refl q k n o member (calm-of false (calm q) _ c)) (λ k n e. absurd cc) (λ k o below e member. absurd cc) (λ o e. absurd cc)
   by-kind (Release x) is ready = quiet-close w calm i said (Release x) is ready refl refl refl (λ q k n o below at kick member c. still w calm i said (Release x) is ready refl q k n o member (calm-of false (calm q) _ c)) (λ k n e. absurd cc) (λ k o below e member. absurd cc) (λ o e. absurd cc)
-  by-kind (Log x offset size) is ready = quiet-close w calm i said (Log x offset size) is ready refl refl refl (λ q k n o below at kick member c. still w calm i said (Log x offset size) is ready refl q k n o member (calm-of false (calm q) _ c)) (λ k n e. absurd cc) (λ k o below e member. absurd cc) (λ o e. absurd cc)
+  by-kind (Log object offset size) is ready = by-log object offset size is
   by-kind (Device call) is ready = quiet-close w calm i said (Device call) is ready refl refl refl (λ q k n o below at kick member c. still w calm i said (Device call) is ready refl q k n o member (calm-of false (calm q) _ c)) (λ k n e. absurd cc) (λ k o below e member. absurd cc) (λ o e. absurd cc)
   by-kind Answering is ready = quiet-close w calm i said Answering is ready refl refl refl (λ q k n o below at kick member c. still w calm i said Answering is ready refl q k n o member (calm-of false (calm q) _ c)) (λ k n e. absurd cc) (λ k o below e member. absurd cc) (λ o e. absurd cc)
   by-kind (Delete k o) is ready = by-delete w calm i said k o is

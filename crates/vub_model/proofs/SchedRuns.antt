@@ -6,7 +6,7 @@ use Rattle.vub_model.specs.declared.play.Play.TheVariants as play
 use Rattle.vub_model.specs.declared.party.Party.{Party}
 use Rattle.vub_model.specs.declared.party.Party.TheVariants as party
 use Rattle.vub_model.specs.declared.setup.Guest.{Guest}
-use Rattle.vub_model.specs.declared.setup.Guest.TheVariants.{Store, Signal}
+use Rattle.vub_model.specs.declared.setup.Guest.TheVariants.{Store, Signal, Harvest}
 use Rattle.vub_model.specs.RingRecord.{limit}
 use Rattle.vub_model.specs.Shared.{ring_at}
 use Rattle.vub_model.specs.Service.{Meaning}
@@ -40,6 +40,7 @@ invariant-step m w calm few i p l may = absurd may
 guest-few : {V : Type 0} (w : World V) (actions : List Guest) (q : ℕ) → (ring_at (after_guest w actions).shared q).taken ≤ (ring_at w.shared q).taken + 1
 guest-few w [] q = omega arith
 guest-few w (Store object offset bytes ∷ actions) q = omega arith
+guest-few w (Harvest object word ∷ actions) q = omega arith
 guest-few w (Signal object ∷ actions) q = omega arith
 
 -- and takes one entry at most

@@ -17,7 +17,7 @@ use Rattle.vub_model.specs.declared.small.Small.TheVariants.{Claim, Release, Add
 use Rattle.vub_model.specs.RingRecord.{fits}
 use Rattle.vub_model.specs.Shared.{Shared, count_at, count_of, raised_option, has_number, without_number}
 use Rattle.vub_model.specs.Plans.{Plan}
-use Rattle.vub_model.specs.Control.{Control, small_after, can_claim, can_add, can_listen, can_unlisten, rest_after, begun_from, instead, told, drop_two, table_refusal, used_index_covers}
+use Rattle.vub_model.specs.Control.{Control, small_after, can_claim, can_add, can_listen, can_unlisten, rest_after, begun_from, instead, told, drop_two, table_refusal, log_refusal, used_index_covers}
 use Rattle.vub_model.specs.Frame.{Frame, frame_of, list_at, is_member}
 use Rattle.vub_model.specs.FrameSteps.{passes, frame_step}
 use Rattle.vub_model.specs.Wiring.{Wiring, opened_at}
@@ -25,7 +25,7 @@ use Rattle.vub_model.specs.Schedule.{Linked, Wired, Safe, Fits, First}
 use Rattle.vub_model.proofs.Counting.{raised-above, raised-keeps}
 use Rattle.vub_model.proofs.Waking.{has-more, has-rest}
 use Rattle.vub_model.proofs.Linking.{unlisten-settled}
-use Rattle.vub_model.proofs.Stepping.{frame_after, Next, step-next, claim-step, listen-step, add-step, outcome-safe, refusal-safe, told-safe}
+use Rattle.vub_model.proofs.Stepping.{frame_after, Next, step-next, claim-step, listen-step, add-step, outcome-safe, refusal-safe, log-safe, told-safe}
 use Rattle.vub_model.proofs.FrameSmall.{NamesEvent, claim-same, listen-same}
 
 -- no counter falls
@@ -111,7 +111,7 @@ module _ {V : Type 0} (g : Wiring) (h : Shared V) (said : DeviceSaid) (wired : W
   left-safe (Remove k n) p safe = step-next g f wired l (Remove k n) p safe refl
   left-safe (Insert k n) p safe = step-next g f wired l (Insert k n) p safe refl
   left-safe (Set q o) p safe = step-next g f wired l (Set q o) p safe refl
-  left-safe (Log o offset size) p safe = step-next g f wired l (Log o offset size) p safe refl
+  left-safe (Log o offset size) p safe = (wired, l, log-safe g f (log_refusal g h o offset size) p safe.0 (safe.1 refl))
   left-safe Answering p safe = step-next g f wired l Answering p safe refl
 
 -- a bell that is there is above zero after it was rung

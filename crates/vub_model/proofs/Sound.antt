@@ -1,5 +1,5 @@
--- What is known of the world wherever a run comes to: the schedule invariant, with fewer takes than the limit, and the
--- numbers and sizes of the rings and the numbers of the takes.
+-- What is known of the world wherever a run comes to: the schedule invariant, with fewer takes than the limit, the
+-- numbers and sizes of the rings and the numbers of the takes, and that regions, logs and harvests fit each other.
 use Rattle.std.proofs.Common.{ℕ, suc, Bool, List, length, arith}
 use Rattle.vub_model.specs.declared.party.Party.{Party}
 use Rattle.vub_model.specs.declared.play.Play.{Play}
@@ -13,6 +13,7 @@ use Rattle.vub_model.specs.World.{World}
 use Rattle.vub_model.proofs.Counted.{counted-writes}
 use Rattle.vub_model.proofs.EachRing.{AllRings, turn-kept}
 use Rattle.vub_model.proofs.EachTurns.{each-turn}
+use Rattle.vub_model.proofs.LogSound.{LogsSound, logs-turn}
 use Rattle.vub_model.proofs.Numbers.{Numbered}
 use Rattle.vub_model.proofs.SchedRuns.{IsFew, invariant-turn, few-turn}
 use Rattle.vub_model.proofs.Served.{number-turn}
@@ -26,6 +27,7 @@ pub record IsSound {V : Type 0} (more : ℕ) (w : World V) : Type 0 where
   pub counted : Counted w.shared
   pub sized : AllRings IsSized w.shared
   pub numbered : Numbered w
+  pub logs : LogsSound w
 
 -- a turn goes on from a sound world to one, with one turn less to go
 pub sound-turn : {V : Type 0} (m : Meaning V) (n : ℕ) (w : World V) (p : Party) (l : Play) (z : World V) → IsSound (suc n) w → Turn m w p l z → IsSound n z
@@ -38,6 +40,7 @@ sound-turn m n w p l z s turn =
       counted = turn-kept IsCounted counted-writes m w s.calm s.invariant s.counted p z l turn;
       sized = turn-kept IsSized sized-writes m w s.calm s.invariant s.sized p z l turn;
       numbered = number-turn m w s.calm p z s.invariant s.numbered l turn;
+      logs = logs-turn m w p z s.logs l turn;
     }
 
 -- what a turn shows of a sound world shows at each turn of a run from one

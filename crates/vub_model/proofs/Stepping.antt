@@ -2,6 +2,7 @@
 use Rattle.std.proofs.Common.{◌≡◌, ℕ, Bool, true, false, cond, not, List, [], ◌∷◌, Option, Some, None, refl, sym, subst, slice_set}
 use Rattle.std.specs.List.{AllByRecursion}
 use Rattle.vub_mem.specs.declared.region.Region.{Region}
+use Rattle.vub_mem.specs.declared.errors.LogError.{LogError}
 use Rattle.vub_mem.specs.declared.errors.MemError.{MemError}
 use Rattle.vub_proto.specs.declared.answer.Answer.{Answer}
 use Rattle.vub_proto.specs.declared.answer.Answer.TheVariants as answer
@@ -13,7 +14,7 @@ use Rattle.vub_proto.specs.declared.request.Request.{Request}
 use Rattle.vub_model.specs.declared.small.Small.{Small}
 use Rattle.vub_model.specs.declared.small.Small.TheVariants.{Claim, Release, Add, Delete, Listen, Unlisten, Bell, Remove, Insert, Set, Info, Table, Log, Device, Answer as Answering}
 use Rattle.vub_model.specs.Plans.{Reply, says, Plan}
-use Rattle.vub_model.specs.Control.{Control, instead, drop_two, after_outcome, after_refusal, begun_from}
+use Rattle.vub_model.specs.Control.{Control, instead, drop_two, after_outcome, after_refusal, after_log_refusal, begun_from}
 use Rattle.vub_model.specs.Wiring.{Wiring}
 use Rattle.vub_model.specs.Frame.{Frame}
 use Rattle.vub_model.specs.FrameSteps.{passes, frame_step}
@@ -66,6 +67,10 @@ module _ (g : Wiring) where
   pub refusal-safe : (f : Frame) (refusal : Option MemError) (p : Plan) → Settled g f → SafePlan g f p → SafePlan g f (after_refusal refusal p)
   refusal-safe f None p settled safe = safe
   refusal-safe f (Some e) p settled safe = ((refl, tt), λ _. settled)
+
+  pub log-safe : (f : Frame) (refusal : Option LogError) (p : Plan) → Settled g f → SafePlan g f p → SafePlan g f (after_log_refusal refusal p)
+  log-safe f None p settled safe = safe
+  log-safe f (Some e) p settled safe = ((refl, tt), λ _. settled)
 
   -- an Insert and the Bell after it may be dropped
   drop-insert : (k n : ℕ) (reply : Reply) (z : Frame) (rest : List Small) → Safe g z reply (Insert k n ∷ rest) → Safe g z reply (drop_two (Insert k n ∷ rest))

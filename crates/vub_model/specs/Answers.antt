@@ -47,8 +47,8 @@ AnswersItsBase old party.Control (play.Control Answering said) new =
     IsBaseAnswer old queue (answers_by old.shared Answering old.control.plan)
 AnswersItsBase old p l new = Unit {0}
 
--- With the first of these requests its plan begins, which is fixed by what is shared and by the session then; where none
--- is left, control has no step.
+-- With the first of these requests its plan begins, which is fixed by what is shared and by the session then; where
+-- none is left, control has no step.
 abbrev pub Begins : Wiring → Frame → List Region → Control → List Request → Type 0
 Begins g f regions c [] = c.plan.steps ≡ []
 Begins g f regions c (r ∷ more) = (c.plan ≡ plan_of g f regions c.session r) × (c.requests ≡ more)
@@ -59,9 +59,9 @@ BeginsNext old party.Control (play.Control Answering said) new =
     Begins new.wiring (frame_of new.shared) new.shared.guest.regions new.control old.control.requests
 BeginsNext old p l new = Unit {0}
 
--- Control's steps are those of the requests' plans, in order and plan by plan, each of which begins where the one before
--- ends; each Answer gives what its plan says, and one that tells a base tells the base at which the queue goes on
--- elsewhere.
+-- Control's steps are those of the requests' plans, in order and plan by plan, each of which begins where the one
+-- before ends; each Answer gives what its plan says, and one that tells a base tells the base at which the queue goes
+-- on elsewhere.
 pub record FollowsPlans {V : Type 0} (m : Meaning V) (schedule : List ℕ) (plays : List Play)
     (w : World V) : Type 0 where
   pub steps : InOrder w.wiring w.control.plan w.control.requests (controls schedule plays)

@@ -1,11 +1,13 @@
 -- Control's small steps: which may be played, what each makes of what is held, and what is left of the plan after it.
 -- A step names only events and lists that are there, so no call of the host is refused for want of one.
 use Rattle.std.specs.Prelude.{◌≡◌, ℕ, ◌+◌, Bool, true, false, ◌||◌, not, if◌then◌else◌, List, [], ◌∷◌, ◌++◌, Option}
-use Rattle.std.specs.Prelude.{Some, None, is_some, Result, Ok, Err}
+use Rattle.std.specs.Prelude.{Some, None, is_some, map, Result, Ok, Err}
 use Rattle.std.specs.Int.{w16}
 use Rattle.vub_mem.specs.Memory.{Guest}
 use Rattle.vub_mem.specs.Place.{covers, number_at}
 use Rattle.vub_mem.specs.Table as table
+use Rattle.vub_mem.specs.Track.{log_fault, with_log}
+use Rattle.vub_mem.specs.declared.errors.LogError.{LogError}
 use Rattle.vub_mem.specs.declared.errors.MemError.{MemError}
 use Rattle.vub_mem.specs.declared.region.Region.{Region}
 use Rattle.vub_event.specs.HostTable.{HostTable, event_at, member_at, is_listed}
@@ -25,7 +27,7 @@ use Rattle.vub_model.specs.declared.ring_op.RingOp.TheVariants as op
 use Rattle.vub_model.specs.declared.session.Session.{Session}
 use Rattle.vub_model.specs.declared.small.Small.{Small}
 use Rattle.vub_model.specs.declared.small.Small.TheVariants.{Claim, Release, Add, Delete, Listen, Unlisten, Bell}
-use Rattle.vub_model.specs.declared.small.Small.TheVariants.{Remove, Insert, Set, Info, Table, Device}
+use Rattle.vub_model.specs.declared.small.Small.TheVariants.{Remove, Insert, Set, Info, Table, Log, Device}
 use Rattle.vub_model.specs.declared.small.Small.TheVariants.{Answer as Answering}
 use Rattle.vub_model.specs.declared.small.TableOp.{TableOp}
 use Rattle.vub_model.specs.declared.small.TableOp.TheVariants as table_op
@@ -69,6 +71,10 @@ table_refusal g (table_op.Replace new) = table.table_fault g.contents new
 table_refusal g (table_op.Insert r) = table.insert_fault g.contents g.regions r
 table_refusal g (table_op.Remove start len) = error_of (table.remove_answer g.regions start len)
 
+-- why the regions get no log: this part of this log, from byte offset on
+abbrev pub log_refusal : {V : Type 0} → Wiring → Shared V → ℕ → ℕ → ℕ → Option LogError
+log_refusal g h object offset size = log_fault (λ log. log.len) h.logs h.guest.regions object offset size g.tracks
+
 abbrev pub used_index_covers : Guest → ℕ → Bool
 used_index_covers g used = covers g.regions (used + 2) 2
 
@@ -81,6 +87,11 @@ next_used_at g used = if used_index_covers g used then Some (number_at w16 g (us
 abbrev pub regions_unless : Option MemError → List Region → List Region → List Region
 regions_unless None new old = new
 regions_unless (Some e) new old = old
+
+-- the regions with this part of this log, or as they were
+abbrev pub logged_unless : Option LogError → ℕ → ℕ → List Region → List Region
+logged_unless None object offset rs = map (λ r. with_log object offset r) rs
+logged_unless (Some e) object offset rs = rs
 
 abbrev pub small_after : {V : Type 0} → Wiring → Shared V → Small → Shared V
 small_after g h (Claim object queue) =
@@ -118,6 +129,12 @@ small_after g h (Table change) =
     record h {
       guest = record h.guest {
         regions = regions_unless (table_refusal h.guest change) (regions_after h.guest.regions change) h.guest.regions;
+      };
+    }
+small_after g h (Log object offset size) =
+    record h {
+      guest = record h.guest {
+        regions = logged_unless (log_refusal g h object offset size) object offset h.guest.regions;
       };
     }
 small_after g h s = h
@@ -199,6 +216,10 @@ abbrev pub after_refusal : Option MemError → Plan → Plan
 after_refusal None p = p
 after_refusal (Some e) p = instead (answer.Failed (error.ReqHandlerError (cause.Memory e))) p
 
+abbrev pub after_log_refusal : Option LogError → Plan → Plan
+after_log_refusal None p = p
+after_log_refusal (Some e) p = instead (answer.Failed (error.ReqHandlerError (cause.Log e))) p
+
 -- A refusal is answered alone, and an Add that finds its event there drops the next two steps.
 abbrev pub rest_after : {V : Type 0} → Wiring → Shared V → Small → DeviceSaid → Plan → Plan
 rest_after g h (Claim object queue) said p =
@@ -216,6 +237,7 @@ rest_after g h (Unlisten worker object above) said p =
 rest_after g h (Info queue desc avail used) said p =
     if used_index_covers h.guest used then p else told (answer.Failed error.BackendInternalError) p
 rest_after g h (Table change) said p = after_refusal (table_refusal h.guest change) p
+rest_after g h (Log object offset size) said p = after_log_refusal (log_refusal g h object offset size) p
 rest_after g h (Device call) said p = after_outcome said p
 rest_after g h s said p = p
 

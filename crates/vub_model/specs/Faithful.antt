@@ -8,6 +8,7 @@ use Rattle.vub_model.specs.Bases.{given_base}
 use Rattle.vub_model.specs.Entries.{TakesItsChain, TakesByFlags, KeepsItsEntry, UsesItsReply}
 use Rattle.vub_model.specs.EntryNumber.{IsCounted}
 use Rattle.vub_model.specs.Headline.{IsServed, TakesAreLive, IsConfined}
+use Rattle.vub_model.specs.Logging.{KeepsLogs}
 use Rattle.vub_model.specs.Opening.{opening, wiring_of, is_registered}
 use Rattle.vub_model.specs.RunOf.{EachTurn, IsAtRest}
 use Rattle.vub_model.specs.Running.{NoneIsLost, calm_end}
@@ -42,9 +43,9 @@ pub record RingsBells {V : Type 0} (m : Meaning V) (schedule : List ℕ) (plays 
 -- from each base, and used each with the service's reply to the bytes read at taking, but for at most one in flight or
 -- held. An entry's number is its place in the ring, the first base is the given one, what was taken is what its chain
 -- holds in the memory of its turn, and a reply stands in the memory after its turn; a worker wrote no byte but those of
--- its step. Each request was answered as its plan says, a stop with the base at which the queue goes on elsewhere.
--- Each queue is served by the first worker whose mask has its bit, a worker with something pending hears of it, and at
--- rest a calm running queue has no entry left.
+-- its step, and each page that it wrote is in the dirty log or in a harvest. Each request was answered as its plan
+-- says, a stop with the base at which the queue goes on elsewhere. Each queue is served by the first worker whose mask
+-- has its bit, a worker with something pending hears of it, and at rest a calm running queue has no entry left.
 pub record IsFaithful {V : Type 0} (m : Meaning V) (constants : Constants) (setup : Setup) (v : V)
     (schedule : List ℕ) (plays : List Play) (closing : World V) : Type 0 where
   pub served : IsServed m schedule plays (opening constants setup v) closing
@@ -53,6 +54,7 @@ pub record IsFaithful {V : Type 0} (m : Meaning V) (constants : Constants) (setu
   pub reads : ReadsChains m schedule plays (opening constants setup v)
   pub puts : PutsReplies m schedule plays (opening constants setup v)
   pub confined : IsConfined m schedule plays (opening constants setup v)
+  pub logged : KeepsLogs m schedule plays (opening constants setup v) closing
   pub plans : FollowsPlans m schedule plays (opening constants setup v)
   pub places : PlacesAreFirst (wiring_of constants (length setup.objects))
   pub bells : RingsBells m schedule plays (opening constants setup v)

@@ -4,6 +4,8 @@
 use Rattle.std.specs.Prelude.{ℕ, ◌+◌, ◌%◌, ◌^◌, Bool, false, ◌&&◌, ◌==◌, if◌then◌else◌, List, [], ◌∷◌, ◌++◌, length}
 use Rattle.std.specs.Prelude.{map, replicate, slice_index_or, Option, Some, None, is_some, find, fold}
 use Rattle.std.specs.List.{range_with_len}
+use Rattle.vub_log.specs.Plain.{Plain, fresh}
+use Rattle.vub_mem.specs.declared.dirty.Stored.{Stored}
 use Rattle.vub_queue.specs.Ring.{Ring}
 use Rattle.vub_queue.specs.declared.addresses.Addresses.{Addresses}
 use Rattle.vub_event.specs.declared.event.Event.{Event}
@@ -38,6 +40,7 @@ use Rattle.vub_model.specs.World.{World}
 abbrev pub flags_of : Object → ℕ
 flags_of (object.Event flags) = flags
 flags_of (object.Content bytes) = 0
+flags_of (object.Log len) = 0
 
 abbrev pub opening_events : List Object → List ℕ → List (Option Event)
 opening_events objects masks =
@@ -55,6 +58,7 @@ wiring_of constants count =
       max = constants.max;
       features = constants.features;
       protocol = constants.protocol;
+      tracks = constants.tracks;
       masks = constants.masks;
       opened = map (λ w. opened_worker count constants.exits w) (range_with_len 0 (length constants.masks));
     }
@@ -147,10 +151,18 @@ registered g h r = registered_kick g h r r.kick
 
 -- The opening
 
+-- the logs of a set-up, whose numbers are their places: no page is marked
+abbrev pub logs_from : ℕ → List Object → List (Stored Plain)
+logs_from n [] = []
+logs_from n (object.Event flags ∷ objects) = logs_from (n + 1) objects
+logs_from n (object.Content bytes ∷ objects) = logs_from (n + 1) objects
+logs_from n (object.Log len ∷ objects) = record { object = n; log = fresh len } ∷ logs_from (n + 1) objects
+
 -- none of an object's bytes was written
 abbrev pub unwritten : Object → List Bool
 unwritten (object.Event flags) = []
 unwritten (object.Content bytes) = replicate (length bytes) false
+unwritten (object.Log len) = []
 
 abbrev pub opening_table : Constants → List Object → HostTable
 opening_table constants objects =
@@ -164,6 +176,7 @@ before_rings constants setup service =
     record {
       guest = record { regions = map given_region setup.regions; contents = contents_from 0 setup.objects };
       rings = opening_rings constants setup.rings;
+      logs = logs_from 0 setup.objects;
       table = opening_table constants setup.objects;
       pending = map (λ mask. []) constants.masks;
       service = service;
@@ -204,6 +217,7 @@ opening constants setup service =
       control = opening_control constants setup service;
       takes = [];
       uses = [];
+      harvests = [];
       written = map unwritten setup.objects;
     }
 

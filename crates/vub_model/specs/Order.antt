@@ -1,6 +1,7 @@
 -- The control labels of a run are the plans' steps in order, plan by plan, where a plan changes only by a refusal, by
 -- what the device told, and by an Add that finds its event there.
 use Rattle.std.specs.Prelude.{◌≡◌, ℕ, ◌⊎◌, List, [], ◌∷◌, ◌++◌}
+use Rattle.vub_mem.specs.declared.errors.LogError.{LogError}
 use Rattle.vub_mem.specs.declared.errors.MemError.{MemError}
 use Rattle.vub_mem.specs.declared.region.Region.{Region}
 use Rattle.vub_proto.specs.declared.answer.Answer.TheVariants as answer
@@ -15,7 +16,7 @@ use Rattle.vub_model.specs.declared.play.Play.TheVariants as play
 use Rattle.vub_proto.specs.declared.request.Request.{Request}
 use Rattle.vub_model.specs.declared.session.Session.{Session}
 use Rattle.vub_model.specs.declared.small.Small.{Small}
-use Rattle.vub_model.specs.declared.small.Small.TheVariants.{Claim, Add, Listen, Unlisten, Info, Table, Device}
+use Rattle.vub_model.specs.declared.small.Small.TheVariants.{Claim, Add, Listen, Unlisten, Info, Table, Log, Device}
 use Rattle.vub_model.specs.Frame.{Frame}
 use Rattle.vub_model.specs.Wiring.{Wiring}
 use Rattle.vub_model.specs.Plans.{Plan, plan_of}
@@ -34,6 +35,8 @@ MayLeave (Info queue desc avail used) rest next =
     (next ≡ rest) ⊎ (next ≡ told (answer.Failed error.BackendInternalError) rest)
 MayLeave (Table change) rest next =
     (next ≡ rest) ⊎ ((e : MemError) × (next ≡ instead (answer.Failed (error.ReqHandlerError (cause.Memory e))) rest))
+MayLeave (Log object offset size) rest next =
+    (next ≡ rest) ⊎ ((e : LogError) × (next ≡ instead (answer.Failed (error.ReqHandlerError (cause.Log e))) rest))
 MayLeave (Device call) rest next = (said : DeviceSaid) × (next ≡ after_outcome said rest)
 MayLeave s rest next = next ≡ rest
 

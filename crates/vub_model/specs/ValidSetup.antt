@@ -1,5 +1,5 @@
 -- Which test a set-up fails first. A set-up that fails none is valid.
-use Rattle.std.specs.Prelude.{◌≡◌, ℕ, ◌+◌, ◌%◌, Bool, true, false, not, ◌&&◌, ◌==◌, nat_le, nat_lt, if◌then◌else◌, List}
+use Rattle.std.specs.Prelude.{◌≡◌, ℕ, ◌+◌, ◌*◌, ◌%◌, Bool, true, false, not, ◌&&◌, ◌==◌, nat_le, nat_lt, if◌then◌else◌, List}
 use Rattle.std.specs.Prelude.{[], ◌∷◌, ◌++◌, length, take, map, Option, Some, None, is_some, option_map, position}
 use Rattle.std.specs.Prelude.{slice_get}
 use Rattle.std.specs.List.{list_all}
@@ -32,11 +32,18 @@ or_else (Some fault) later = Some fault
 abbrev pub is_event_object : Object → Bool
 is_event_object (object.Event flags) = true
 is_event_object (object.Content bytes) = false
+is_event_object (object.Log len) = false
 
 -- how many bytes it has, if it is a content
 abbrev pub content_length : Object → Option ℕ
 content_length (object.Event flags) = None
 content_length (object.Content bytes) = Some (length bytes)
+content_length (object.Log len) = None
+
+-- how many bytes it has, if it is a log
+abbrev pub log_length : Object → Option ℕ
+log_length (object.Log len) = Some len
+log_length o = None
 
 -- whether the object with this number is an event of the set-up
 unfoldable pub is_event : List Object → ℕ → Bool
@@ -54,6 +61,14 @@ length_in (Some o) = content_length o
 -- how many bytes the object with this number has, if it is a content of the set-up
 unfoldable pub content_len : List Object → ℕ → Option ℕ
 content_len objects number = length_in (slice_get objects number)
+
+abbrev pub log_length_in : Option Object → Option ℕ
+log_length_in None = None
+log_length_in (Some o) = log_length o
+
+-- how many bytes the object with this number has, if it is a log of the set-up
+unfoldable pub log_size : List Object → ℕ → Option ℕ
+log_size objects number = log_length_in (slice_get objects number)
 
 -- the greatest size is a power of two, from 1 to 32768
 unfoldable pub is_greatest_size : ℕ → Bool
@@ -76,6 +91,7 @@ device_fault constants objects =
 abbrev pub contents_from : ℕ → List Object → List Content
 contents_from n [] = []
 contents_from n (object.Event flags ∷ objects) = contents_from (n + 1) objects
+contents_from n (object.Log len ∷ objects) = contents_from (n + 1) objects
 contents_from n (object.Content bytes ∷ objects) = record { object = n; bytes = bytes } ∷ contents_from (n + 1) objects
 
 -- the region of a table that a set-up gives
@@ -134,13 +150,12 @@ ring_fault constants objects earlier (ring ∷ rings) =
     then ring_fault constants objects (earlier ++ ring ∷ []) rings
     else Some (setup_fault.Ring (length earlier))
 
--- Whether the objects and the worker that a request names are there, and of the right kind. A set-up has no object that
--- is a log.
+-- whether the objects and the worker that a request names are there, and of the right kind
 unfoldable pub is_answerable : Constants → List Object → Request → Bool
 is_answerable constants objects (request.SetMemTable parts contents flag) =
     list_all (λ content. is_some (content_len objects content)) contents
 is_answerable constants objects (request.AddMemRegion part content flag) = is_some (content_len objects content)
-is_answerable constants objects (request.SetLogBase size offset object) = false
+is_answerable constants objects (request.SetLogBase size offset object) = is_some (log_size objects object)
 is_answerable constants objects (request.SetVringKick queue event) = is_event_or_none objects event
 is_answerable constants objects (request.SetVringCall queue event) = is_event_or_none objects event
 is_answerable constants objects (request.SetVringErr queue event) = is_event_or_none objects event
@@ -163,10 +178,16 @@ abbrev pub fits_in : Option ℕ → ℕ → Bool
 fits_in None n = false
 fits_in (Some len) n = nat_le n len
 
+-- a log of this many bytes has the word
+abbrev pub has_word : Option ℕ → ℕ → Bool
+has_word None word = false
+has_word (Some len) word = nat_lt (4 * word) len
+
 -- whether the guest can do this action
 unfoldable pub is_possible : List Object → Guest → Bool
 is_possible objects (action.Store number offset bytes) = fits_in (content_len objects number) (offset + length bytes)
 is_possible objects (action.Signal number) = is_event objects number
+is_possible objects (action.Harvest number word) = has_word (log_size objects number) word
 
 -- the first of these actions that the guest can't do
 abbrev pub first_impossible : List Object → List Guest → Option ℕ
@@ -178,6 +199,15 @@ guest_fault objects guest =
     or_else (option_map (λ i. setup_fault.Guest i) (first_impossible objects (take 1048576 guest)))
     (if nat_lt 1048576 (length guest) then Some (setup_fault.Guest 1048576) else None)
 
+-- whether it is a log of length 0
+abbrev pub is_empty_log : Object → Bool
+is_empty_log (object.Log len) = len == 0
+is_empty_log o = false
+
+-- the first log of length 0
+unfoldable pub log_object_fault : List Object → Option SetupFault
+log_object_fault objects = option_map (λ i. setup_fault.Log i) (position is_empty_log objects)
+
 -- the first test that a set-up fails, for a device with these constants
 unfoldable pub fault_of : Constants → Setup → Option SetupFault
 fault_of constants setup =
@@ -186,7 +216,8 @@ fault_of constants setup =
     (or_else (given_table_fault setup.objects setup.regions)
     (or_else (ring_fault constants setup.objects [] setup.rings)
     (or_else (request_fault constants setup.objects setup.requests)
-    (guest_fault setup.objects setup.guest)))))
+    (or_else (guest_fault setup.objects setup.guest)
+    (log_object_fault setup.objects))))))
 
 abbrev pub IsValid : Constants → Setup → Type 0
 IsValid constants setup = fault_of constants setup ≡ None

@@ -9,8 +9,8 @@ use Rattle.vub_queue.specs.declared.took.Took.TheVariants as took
 use Rattle.vub_queue.specs.declared.putting.PutFault.{PutFault}
 use Rattle.vub_queue.specs.declared.putting.PutFault.TheVariants as put_fault
 use Rattle.vub_queue.specs.Function.{took_of}
-use Rattle.vub_queue.specs.Take.{guest_taken}
-use Rattle.vub_queue.specs.Put.{put_answer, put_guest, ring_used}
+use Rattle.vub_queue.specs.Take.{guest_taken, marks_taken}
+use Rattle.vub_queue.specs.Put.{put_answer, put_guest, put_marks, ring_used}
 use Rattle.vub_queue.specs.Notification.{wants_notification}
 use Rattle.vub_event.specs.declared.member.Member.{Member}
 use Rattle.vub_event.specs.HostTable.{members_at}
@@ -31,6 +31,7 @@ use Rattle.vub_model.specs.declared.phase.Phase.TheVariants.{Stopped}
 use Rattle.vub_model.specs.declared.ring_op.RingOp.TheVariants as op
 use Rattle.vub_model.specs.RingRecord.{Vring, is_on, has_addresses, is_in_flight, limit, ring_after}
 use Rattle.vub_model.specs.EntryNumber.{next_number}
+use Rattle.vub_model.specs.Logs.{with_marks}
 use Rattle.vub_model.specs.Shared.{Shared, ring_at, with_ring, count_at, counter_read, raised_or_none, is_ready}
 use Rattle.vub_model.specs.Shared.{token_of, pending_at, swept}
 use Rattle.vub_model.specs.Wiring.{Wiring, opened_at, queues_of}
@@ -124,10 +125,17 @@ looked h queue = if may_take (ring_at h queue) then took_of h.guest (ring_at h q
 abbrev pub entry_of : ℕ → Vring → Chain → Entry
 entry_of queue r c = record { queue = queue; epoch = r.epoch; number = next_number r; chain = c }
 
--- where nothing is left, a live ring publishes the number of the next entry, if notifications go by index
+-- the number of the next entry is published, if notifications go by index, and its page is marked
+abbrev pub published : {V : Type 0} → Shared V → Ring → Shared V
+published h r =
+    record h {
+      guest = guest_taken h.guest r took.None;
+      logs = with_marks h.logs (marks_taken h.guest.regions r took.None);
+    }
+
+-- so it is where a live ring has nothing left
 abbrev pub after_none : {V : Type 0} → Shared V → ℕ → Shared V
-after_none h queue =
-    if may_take (ring_at h queue) then record h { guest = guest_taken h.guest (ring_at h queue).queue took.None } else h
+after_none h queue = if may_take (ring_at h queue) then published h (ring_at h queue).queue else h
 
 abbrev pub after_took : {V : Type 0} → Shared V → ℕ → List ℕ → Took → Local V
 after_took h queue rest (took.Entry c) =
@@ -171,12 +179,13 @@ abbrev pub why_of : PutFault → Why
 why_of put_fault.RoomOutside = why.RoomOutside
 why_of put_fault.RingOutside = why.RingOutside
 
--- the reply stands in memory, and the ring's used index is raised
+-- the reply stands in memory and its pages are marked, and the ring's used index is raised
 abbrev pub used : {V : Type 0} → Shared V → Entry → List ℕ → Shared V
 used h e reply =
     record h {
       guest = put_guest h.guest (ring_at h e.queue).queue e.chain reply;
       rings = (with_ring h e.queue (ring_after (ring_at h e.queue) op.Put)).rings;
+      logs = with_marks h.logs (put_marks h.guest.regions (ring_at h e.queue).queue e.chain reply);
     }
 
 -- the call is signalled, where the driver wants it

@@ -16,7 +16,9 @@ use Rattle.vub_model.specs.declared.phase.Phase.{Phase}
 use Rattle.vub_model.specs.declared.phase.Phase.TheVariants.{Serving, Taken, Served, Stopped}
 use Rattle.vub_model.specs.declared.records.Take.{Take}
 use Rattle.vub_model.specs.declared.setup.Guest.{Guest}
-use Rattle.vub_model.specs.declared.setup.Guest.TheVariants.{Store, Signal}
+use Rattle.vub_model.specs.declared.setup.Guest.TheVariants.{Store, Signal, Harvest}
+use Rattle.vub_model.specs.declared.records.Harvested.{Harvested}
+use Rattle.vub_model.specs.Logs.{log_at, word_at, without_word}
 use Rattle.vub_model.specs.declared.small.Small.{Small}
 use Rattle.vub_model.specs.Control.{Control, small_after, MayControl, control_after}
 use Rattle.vub_model.specs.Shared.{Shared, ring_at, raised}
@@ -39,6 +41,8 @@ pub record World (V : Type 0) : Type 0 where
   pub uses : List Used
   -- by object and place, whether takes and puts wrote the byte
   pub written : List (List Bool)
+  -- the words that the guest harvested so far, in order
+  pub harvests : List Harvested
 
 -- a worker that is not there has stopped
 abbrev pub phase_at : List Phase → ℕ → Phase
@@ -54,10 +58,22 @@ stored g object offset bytes =
 abbrev pub acted : {V : Type 0} → Shared V → Guest → Shared V
 acted h (Store object offset bytes) = record h { guest = stored h.guest object offset bytes }
 acted h (Signal object) = raised h object
+acted h (Harvest object word) = record h { logs = without_word h.logs object word }
+
+-- the word that an action harvests, with the bits that it had
+abbrev pub harvests_by : {V : Type 0} → Shared V → Guest → List Harvested
+harvests_by h (Harvest object word) =
+    record { object = object; word = word; bits = word_at (log_at h.logs object) word } ∷ []
+harvests_by h action = []
 
 abbrev pub after_guest : {V : Type 0} → World V → List Guest → World V
 after_guest w [] = w
-after_guest w (action ∷ actions) = record w { shared = acted w.shared action; guest = actions }
+after_guest w (action ∷ actions) =
+    record w {
+      shared = acted w.shared action;
+      guest = actions;
+      harvests = w.harvests ++ harvests_by w.shared action;
+    }
 
 -- What a worker's step records
 

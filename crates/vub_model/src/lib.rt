@@ -27,7 +27,7 @@ pub use party::Party;
 pub use phase::Phase;
 pub use play::Play;
 pub use queues::Queues;
-pub use records::{Count, DeviceCall, Span, Stop, Take};
+pub use records::{Count, DeviceCall, Harvested, LogBytes, Span, Stop, Take};
 pub use ring_op::{RingOp, RingSaid};
 pub use run::{DriveFault, Run, SetupFault};
 pub use session::Session;

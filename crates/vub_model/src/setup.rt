@@ -8,6 +8,8 @@ pub enum Object {
     Event { flags: u32 },
     /// Some bytes, of which regions of guest memory may show parts.
     Content(Bytes),
+    /// A log of dirty pages of `len` bytes, with one bit a page. None is marked at first.
+    Log { len: u32 },
 }
 
 /// An action of the guest.
@@ -22,6 +24,11 @@ pub enum Guest {
     /// Adds 1 to an event's count; a full counter stays.
     Signal {
         object: u32,
+    },
+    /// Hands out a word of a log and clears it: word `w` has the bits of pages `32 * w` to `32 * w + 31`.
+    Harvest {
+        object: u32,
+        word: u64,
     },
 }
 

@@ -12,6 +12,9 @@ contents_from-append n [] ps = (let none : n ≡ n + 0 = omega arith in ap (λ k
 contents_from-append n (object.Event flags ∷ os) ps =
     contents_from-append (n + 1) os ps
     ∙ (let same : n + 1 + length os ≡ n + suc (length os) = omega arith in ap (λ k. contents_from (n + 1) os ++ contents_from k ps) same)
+contents_from-append n (object.Log len ∷ os) ps =
+    contents_from-append (n + 1) os ps
+    ∙ (let same : n + 1 + length os ≡ n + suc (length os) = omega arith in ap (λ k. contents_from (n + 1) os ++ contents_from k ps) same)
 contents_from-append n (object.Content bytes ∷ os) ps =
     ap (λ cs. record { object = n; bytes = bytes } ∷ cs) (contents_from-append (n + 1) os ps
     ∙ (let same : n + 1 + length os ≡ n + suc (length os) = omega arith in ap (λ k. contents_from (n + 1) os ++ contents_from k ps) same))

@@ -2,6 +2,7 @@ pub mod Claims
 pub mod ContentsFrom
 pub mod HostCauses
 pub mod HostTakes
+pub mod LogsFrom
 pub mod MaskBits
 pub mod NewEvents
 pub mod NewLists

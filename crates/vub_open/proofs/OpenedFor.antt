@@ -13,7 +13,7 @@ use Rattle.vub_open.specs.Opened.{unserved}
 
 -- what is held, with this service in place of the other
 abbrev with_service : {U V : Type 0} → V → Shared U → Shared V
-with_service v h = record { guest = h.guest; rings = h.rings; table = h.table; pending = h.pending; service = v }
+with_service v h = record { guest = h.guest; rings = h.rings; logs = h.logs; table = h.table; pending = h.pending; service = v }
 
 module _ {U V : Type 0} (v : V) (g : Wiring) where
   placed_with : (h : Shared U) (kick : ℕ) (found : Option Place) → with_service v (placed g h kick found) ≡ placed g (with_service v h) kick found
@@ -33,7 +33,7 @@ module _ {U V : Type 0} (v : V) (g : Wiring) where
   all_with (r ∷ rs) h = all_with rs (registered g h r) ∙ ap (λ h. fold (λ h r. registered g h r) h rs) (registered_with h r r.kick)
 
 -- a store that opens a set-up opens it for every service
-pub opened_for : {V : Type 0} (k : Constants) (s : Setup) (v : V) (store : Store (Unit {0})) → unserved store ≡ (opening k s (tt {0})).shared → shared_of store v ≡ (opening k s v).shared
+pub opened_for : {V : Type 0} (k : Constants) (s : Setup) (v : V) (store : Store) → unserved store ≡ (opening k s (tt {0})).shared → shared_of store v ≡ (opening k s v).shared
 unfolding opening
 opened_for k s v store opens =
     ap (λ h. with_service v h) opens

@@ -13,7 +13,7 @@ use Rattle.vub_model.specs.declared.setup.Guest.{Guest}
 use Rattle.vub_model.specs.declared.setup.Object.{Object}
 use Rattle.vub_model.specs.declared.setup.Setup.{Setup}
 use Rattle.vub_open.specs.Opened.{IsFit}
-use Rattle.vub_model.specs.ValidSetup.{or_else, is_greatest_size, is_event_or_none, content_len, exit_fault, device_fault, region_fault, given_table_fault, ring_is_sound, is_first_of_queue, is_aligned, is_free_or_none, ring_fault, is_possible, first_impossible, request_fault, guest_fault, fault_of}
+use Rattle.vub_model.specs.ValidSetup.{or_else, is_greatest_size, is_event_or_none, content_len, exit_fault, device_fault, region_fault, given_table_fault, ring_is_sound, is_first_of_queue, is_aligned, is_free_or_none, ring_fault, is_possible, first_impossible, request_fault, guest_fault, log_object_fault, fault_of}
 
 -- Facts of all elements
 
@@ -66,19 +66,23 @@ pub record NoFault (k : Constants) (s : Setup) : Type 0 where
   pub rings : ring_fault k s.objects [] s.rings ≡ None
   pub requests : request_fault k s.objects s.requests ≡ None
   pub guest : guest_fault s.objects s.guest ≡ None
+  pub logs : log_object_fault s.objects ≡ None
 
 pub no_fault : (k : Constants) (s : Setup) → fault_of k s ≡ None → NoFault k s
 unfolding fault_of
 no_fault k s e =
-    let last = or_else (request_fault k s.objects s.requests) (guest_fault s.objects s.guest) in
+    let logs = log_object_fault s.objects in
+    let end = or_else (guest_fault s.objects s.guest) logs in
+    let last = or_else (request_fault k s.objects s.requests) end in
     let behind = or_else (ring_fault k s.objects [] s.rings) last in
     let tables = or_else (given_table_fault s.objects s.regions) behind in
     let a = or_none (device_fault k s.objects) (or_else (region_fault s.objects s.regions) tables) e in
     let b = or_none (region_fault s.objects s.regions) tables a.1 in
     let c = or_none (given_table_fault s.objects s.regions) behind b.1 in
     let d = or_none (ring_fault k s.objects [] s.rings) last c.1 in
-    let r = or_none (request_fault k s.objects s.requests) (guest_fault s.objects s.guest) d.1 in
-    record { device = a.0; regions = b.0; table = c.0; rings = d.0; requests = r.0; guest = r.1 }
+    let r = or_none (request_fault k s.objects s.requests) end d.1 in
+    let g = or_none (guest_fault s.objects s.guest) logs r.1 in
+    record { device = a.0; regions = b.0; table = c.0; rings = d.0; requests = r.0; guest = g.0; logs = g.1 }
 
 -- a device that fails no test, beside these objects
 pub record SoundDevice (k : Constants) (objects : List Object) : Type 0 where

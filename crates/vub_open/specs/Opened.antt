@@ -18,7 +18,7 @@ pub record IsFit (max : ℕ) (ring : GivenRing) : Type 0 where
   pub aligned : is_aligned ring.info ≡ true
 
 -- what a store holds, beside a service of no state
-abbrev pub unserved : Store (Unit {0}) → Shared (Unit {0})
+abbrev pub unserved : Store → Shared (Unit {0})
 unserved s = shared_of s (tt {0})
 
 -- each exit object is one of so many objects

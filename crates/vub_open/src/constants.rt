@@ -5,6 +5,7 @@ ghost use Rattle.vub_open.specs.Asked.{constants_by};
 
 use std::alloc::Global;
 use vub_base::{Listed, OutOfMemory};
+use vub_mem::BitmapReplace;
 use vub_model::Constants;
 use vub_proto::VhostUserBackendMut;
 
@@ -30,7 +31,7 @@ pub fn read_constants<D: VhostUserBackendMut>(
     alloc: Global,
     device: &D,
 ) -> Result<Constants, OutOfMemory>
-    ensures { IfOk result (λ c. c ≡ constants_by D.VhostUserBackendMut device.now) }
+    ensures { IfOk result (λ c. c ≡ constants_by D.VhostUserBackendMut D.Bitmap.TRACKS device.now) }
 {
     let masks = device.queues_per_thread(alloc)?;
     let exits = exits_of(alloc, device, masks.len())?;
@@ -39,6 +40,7 @@ pub fn read_constants<D: VhostUserBackendMut>(
         max: device.max_queue_size(),
         features: device.features(),
         protocol: device.protocol_features(),
+        tracks: D::Bitmap::TRACKS,
         masks: Listed::from_vec(masks),
         exits: Listed::from_vec(exits),
     })

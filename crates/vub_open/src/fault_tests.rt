@@ -10,18 +10,20 @@ use vub_model::{
 };
 use vub_proto::{FixedDevice, Request};
 
-/// An object of a case: an event, or a content of this many zeros.
+/// An object of a case: an event, a content of this many zeros, or a log of this many bytes.
 #[derive(Clone, Copy)]
 enum Part {
     Event,
     Content(usize),
+    Log(u32),
 }
 
-/// An action of a case: a signal, or a store of this many zeros.
+/// An action of a case: a signal, a store of this many zeros, or a harvest of a word.
 #[derive(Clone, Copy)]
 enum Action {
     Signal(u32),
     Store(u32, u64, usize),
+    Harvest(u32, u64),
 }
 
 /// A request of a case, which names these objects.
@@ -454,7 +456,7 @@ const fn guest_case(
 }
 
 /// Faults of the guest's actions.
-fn guest_cases() -> [Case; 9] {
+fn guest_cases() -> [Case; 14] {
     let second = Some(SetupFault::Guest(1));
     [
         guest_case("no action at all", &[], None),
@@ -500,6 +502,62 @@ fn guest_cases() -> [Case; 9] {
             fault: Some(SetupFault::Ring(0)),
             ..SOUND
         },
+        Case {
+            name: "the last word of a log, and that log by a request",
+            objects: &[
+                Part::Event,
+                Part::Event,
+                Part::Event,
+                Part::Content(64),
+                Part::Log(34),
+            ],
+            requests: &[Ask::Log(4)],
+            guest: &[Action::Harvest(4, 8)],
+            ..SOUND
+        },
+        Case {
+            name: "a word past its log",
+            objects: &[
+                Part::Event,
+                Part::Event,
+                Part::Event,
+                Part::Content(64),
+                Part::Log(32),
+            ],
+            guest: &[Action::Harvest(4, 7), Action::Harvest(4, 8)],
+            fault: second,
+            ..SOUND
+        },
+        guest_case(
+            "a harvest of a content",
+            &[Action::Signal(0), Action::Harvest(3, 0)],
+            second,
+        ),
+        Case {
+            name: "a faulty action comes before an empty log",
+            objects: &[
+                Part::Event,
+                Part::Event,
+                Part::Event,
+                Part::Content(64),
+                Part::Log(0),
+            ],
+            guest: &[Action::Signal(0), Action::Harvest(4, 0)],
+            fault: second,
+            ..SOUND
+        },
+        Case {
+            name: "an empty log",
+            objects: &[
+                Part::Event,
+                Part::Event,
+                Part::Event,
+                Part::Content(64),
+                Part::Log(0),
+            ],
+            fault: Some(SetupFault::Log(4)),
+            ..SOUND
+        },
     ]
 }
 
@@ -512,12 +570,14 @@ fn object_of(alloc: Global, part: Part) -> Result<Object, OutOfMemory> {
     match part {
         Part::Event => Ok(Object::Event { flags: 0 }),
         Part::Content(len) => Ok(Object::Content(zeros(alloc, len)?)),
+        Part::Log(len) => Ok(Object::Log { len }),
     }
 }
 
 fn action_of(alloc: Global, action: Action) -> Result<Guest, OutOfMemory> {
     match action {
         Action::Signal(object) => Ok(Guest::Signal { object }),
+        Action::Harvest(object, word) => Ok(Guest::Harvest { object, word }),
         Action::Store(object, offset, len) => {
             let bytes = zeros(alloc, len)?;
             Ok(Guest::Store {
@@ -592,6 +652,7 @@ fn constants_of(alloc: Global, case: &Case) -> Result<Constants, OutOfMemory> {
         max: case.max,
         features: 0,
         protocol: 0,
+        tracks: false,
         masks: Listed::from_vec(masks),
         exits: Listed::from_vec(exits),
     })

@@ -2,7 +2,7 @@
 ghost use Rattle.std.specs.Prelude.{◌≡◌, not, position, take, [], is_some};
 ghost use Rattle.std.specs.List.{list_all};
 ghost use Rattle.vub_model.specs.Work.{is_object};
-ghost use Rattle.vub_model.specs.ValidSetup.{is_event, is_event_or_none, content_len, exit_fault, device_fault, region_fault, is_aligned, is_free, is_free_or_none, is_first_of_queue, ring_is_sound, ring_fault, is_possible, first_impossible, guest_fault};
+ghost use Rattle.vub_model.specs.ValidSetup.{is_event, is_event_or_none, content_len, exit_fault, device_fault, region_fault, is_aligned, is_free, is_free_or_none, is_first_of_queue, ring_is_sound, ring_fault, log_size, has_word, is_possible, first_impossible, guest_fault, is_empty_log, log_object_fault};
 
 use vub_model::{Constants, GivenRegion, GivenRing, Guest, Info, Object, SetupFault};
 
@@ -47,6 +47,30 @@ pub(crate) fn content_len(objects: &[Object], number: u32) -> Option<u64>
     match objects.get(number as usize) {
         Some(Object::Content(bytes)) => Some(bytes.len() as u64),
         _ => None,
+    }
+}
+
+/// How many bytes the object has, if it is a log of the set-up.
+#[tactic(auto, unfolding(vub_model::specs::ValidSetup::log_size))]
+pub(crate) fn log_size(objects: &[Object], number: u32) -> Option<u32>
+    ensures { result ≡ log_size objects.now number }
+{
+    match objects.get(number as usize) {
+        Some(Object::Log { len }) => Some(*len),
+        _ => None,
+    }
+}
+
+/// Whether a log of this many bytes has the word.
+fn has_word(len: Option<u32>, word: u64) -> bool
+    ensures { result ≡ has_word len word }
+{
+    match len {
+        None => false,
+        Some(len) => match word.checked_mul(4) {
+            None => false,
+            Some(start) => start < len as u64,
+        },
     }
 }
 
@@ -195,6 +219,7 @@ fn is_possible(objects: &[Object], action: &Guest) -> bool
 {
     match action {
         Guest::Signal { object } => is_event(objects, *object),
+        Guest::Harvest { object, word } => has_word(log_size(objects, *object), *word),
         Guest::Store {
             object,
             offset,
@@ -234,4 +259,29 @@ pub(crate) fn guest_fault(objects: &[Object], guest: &[Guest]) -> Option<SetupFa
             }
         }
     }
+}
+
+/// Whether it is a log of length 0.
+fn is_empty_log(object: &Object) -> bool
+    ensures { result ≡ is_empty_log object.now }
+{
+    match object {
+        Object::Log { len } => *len == 0,
+        _ => false,
+    }
+}
+
+/// The first log of length 0.
+fn first_empty_log(objects: &[Object]) -> Option<usize>
+    ensures { result ≡ position is_empty_log objects.now }
+{
+    objects.iter().position(is_empty_log)
+}
+
+/// The first log of length 0.
+#[tactic(auto, unfolding(vub_model::specs::ValidSetup::log_object_fault))]
+pub(crate) fn log_object_fault(objects: &[Object]) -> Option<SetupFault>
+    ensures { result ≡ log_object_fault objects.now }
+{
+    first_empty_log(objects).map(SetupFault::Log)
 }

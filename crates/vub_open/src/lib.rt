@@ -1,6 +1,6 @@
 //! Opening a set-up: a device is asked for its constants, the set-up is tested, and a valid one is opened: its guest
-//! memory, a ring for each queue, an event for each object, and a bell, an interest list and a pending set for each worker,
-//! with the given rings registered.
+//! memory, a ring for each queue, an event for each object, and a bell, an interest list and a pending set for each
+//! worker, with the given rings registered.
 #![tactic(auto)]
 
 mod constants;
@@ -8,6 +8,7 @@ mod constants;
 mod fault_tests;
 mod faults;
 mod new_host;
+mod new_logs;
 mod new_rings;
 mod opening;
 mod places;

@@ -45,7 +45,7 @@ fn flags_of(object: &Object) -> u32
 {
     match object {
         Object::Event { flags } => *flags,
-        Object::Content(_) => 0,
+        Object::Content(_) | Object::Log { .. } => 0,
     }
 }
 

@@ -56,7 +56,7 @@ fn insert(pending: &mut Vec<Pending>, worker: u32, number: u32) -> Result<(), Ou
 /// The kick of a queue joins the interest list of its worker, the queue is pending, and the bell is rung.
 fn place_kick(
     alloc: Global,
-    store: &mut Store<()>,
+    store: &mut Store,
     constants: &Constants,
     count: u32,
     kick: u32,
@@ -89,7 +89,7 @@ fn place_kick(
 /// interest list, the queue is pending, and the bell is rung.
 fn register(
     alloc: Global,
-    store: &mut Store<()>,
+    store: &mut Store,
     constants: &Constants,
     count: u32,
     ring: &GivenRing,
@@ -125,7 +125,7 @@ fn register(
 /// Want of memory.
 pub(crate) fn register_rings(
     alloc: Global,
-    store: &mut Store<()>,
+    store: &mut Store,
     constants: &Constants,
     count: u32,
     given: &[GivenRing],

@@ -1,9 +1,9 @@
 //! The test of what a set-up asks of control.
 ghost use Rattle.std.specs.Prelude.{◌≡◌, ◌&&◌, not, nat_lt, length, position, is_some};
 ghost use Rattle.std.specs.List.{list_all};
-ghost use Rattle.vub_model.specs.ValidSetup.{is_event, content_len, is_answerable, request_fault};
+ghost use Rattle.vub_model.specs.ValidSetup.{is_event, content_len, log_size, is_answerable, request_fault};
 
-use crate::faults::{content_len, is_event, is_event_or_none};
+use crate::faults::{content_len, is_event, is_event_or_none, log_size};
 use vub_model::{Constants, Object, SetupFault};
 use vub_proto::Request;
 
@@ -30,7 +30,7 @@ fn may_listen(constants: &Constants, objects: &[Object], worker: u32, event: u32
     is_event(objects, event) && (worker as usize) < constants.masks.len()
 }
 
-/// Whether the objects and the worker that a request names are there, and of the right kind. No object is a log.
+/// Whether the objects and the worker that a request names are there, and of the right kind.
 #[tactic(auto, unfolding(vub_model::specs::ValidSetup::is_answerable))]
 fn is_answerable(constants: &Constants, objects: &[Object], request: &Request) -> bool
     ensures { result ≡ is_answerable constants.now objects.now request.now }
@@ -38,7 +38,7 @@ fn is_answerable(constants: &Constants, objects: &[Object], request: &Request) -
     match request {
         Request::SetMemTable { contents, .. } => are_contents(objects, contents.as_slice()),
         Request::AddMemRegion { content, .. } => content_len(objects, *content).is_some(),
-        Request::SetLogBase { .. } => false,
+        Request::SetLogBase { object, .. } => log_size(objects, *object).is_some(),
         Request::SetVringKick { event, .. } => is_event_or_none(objects, *event),
         Request::SetVringCall { event, .. } => is_event_or_none(objects, *event),
         Request::SetVringErr { event, .. } => is_event_or_none(objects, *event),

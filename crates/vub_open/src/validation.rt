@@ -1,16 +1,16 @@
 //! The tests of a set-up, and the guest memory of one that passes them.
 ghost use Rattle.std.specs.Prelude.{◌≡◌, ◌+◌, ◌<◌, ◌^◌, [], ◌∷◌, ◌++◌, length, map, None, IsTrue, IfOk, IfErr, OnOk, OnErr};
 ghost use Rattle.std.specs.List.{AllByRecursion};
-ghost use Rattle.vub_mem.specs.Memory.{Guest};
-ghost use Rattle.vub_model.specs.ValidSetup.{or_else, contents_from, given_region, device_fault, region_fault, given_table_fault, ring_fault, request_fault, guest_fault, fault_of};
+ghost use Rattle.vub_model.specs.ValidSetup.{or_else, contents_from, given_region, device_fault, region_fault, given_table_fault, ring_fault, request_fault, guest_fault, log_object_fault, fault_of};
 ghost use Rattle.vub_open.specs.Refused.{IsRefusal};
 
-use crate::faults::{device_fault, guest_fault, region_fault, ring_fault};
+use crate::faults::{device_fault, guest_fault, log_object_fault, region_fault, ring_fault};
 use crate::requests::request_fault;
 use std::alloc::Global;
 use vub_base::{Bytes, OutOfMemory};
+use vub_log::PlainLog;
 use vub_mem::{GuestMemory, Region};
-use vub_model::{Constants, DriveFault, GivenRegion, Object, Setup, SetupFault};
+use vub_model::{Constants, DriveFault, GivenRegion, Guest, Object, Setup, SetupFault};
 
 /// The greatest number of objects and bells of workers together, which are numbered from 0 on.
 const MAX_OBJECTS: usize = u32::MAX as usize;
@@ -22,7 +22,7 @@ pub const NO_MEMORY: DriveFault = DriveFault::OutOfMemory { done: 0 };
 #[tactic(auto, using(crate::proofs::Numbered::below_apart, crate::proofs::Numbered::below_next, crate::proofs::Numbered::below_push))]
 fn put_content(
     alloc: Global,
-    memory: &mut GuestMemory<()>,
+    memory: &mut GuestMemory<PlainLog>,
     number: u32,
     object: &Object,
 ) -> Result<(), OutOfMemory>
@@ -34,7 +34,7 @@ fn put_content(
     ensures logs { memory.new.logs ≡ memory.old.logs }
 {
     match object {
-        Object::Event { .. } => Ok(()),
+        Object::Event { .. } | Object::Log { .. } => Ok(()),
         Object::Content(bytes) => {
             let bytes = Bytes::from_slice(alloc, bytes.as_slice())?;
             match memory.put_object(number, bytes) {
@@ -46,7 +46,7 @@ fn put_content(
 }
 
 /// Memory with the contents of these objects and no region.
-fn contents_of(alloc: Global, objects: &[Object]) -> Result<GuestMemory<()>, OutOfMemory>
+fn contents_of(alloc: Global, objects: &[Object]) -> Result<GuestMemory<PlainLog>, OutOfMemory>
     requires { length objects.now < 2 ^ 32 }
     ensures contents { IfOk result (λ m. m.guest ≡ record { regions = []; contents = contents_from 0 objects.now }) }
     ensures logs { IfOk result (λ m. m.logs ≡ []) }
@@ -88,7 +88,7 @@ fn memory_of(
     alloc: Global,
     objects: &[Object],
     regions: &[GivenRegion],
-) -> Result<GuestMemory<()>, DriveFault>
+) -> Result<GuestMemory<PlainLog>, DriveFault>
     requires { length objects.now < 2 ^ 32 }
     ensures refused { IfErr result (λ f. IsRefusal (given_table_fault objects.now regions.now) f) }
     ensures sound { OnOk result (given_table_fault objects.now regions.now ≡ None) }
@@ -123,11 +123,21 @@ fn fault_before(constants: &Constants, setup: &Setup) -> Option<SetupFault>
     }
 }
 
+/// The first test that fails of the guest's actions and of the logs.
+fn fault_at_last(objects: &[Object], guest: &[Guest]) -> Option<SetupFault>
+    ensures { result ≡ or_else (guest_fault objects.now guest.now) (log_object_fault objects.now) }
+{
+    match guest_fault(objects, guest) {
+        Some(fault) => Some(fault),
+        None => log_object_fault(objects),
+    }
+}
+
 /// The first test that fails of those that are made behind the region table.
 fn fault_behind(constants: &Constants, setup: &Setup) -> Option<SetupFault>
     ensures { result ≡ or_else (ring_fault constants.now setup.now.objects [] setup.now.rings)
         (or_else (request_fault constants.now setup.now.objects setup.now.requests)
-        (guest_fault setup.now.objects setup.now.guest)) }
+        (or_else (guest_fault setup.now.objects setup.now.guest) (log_object_fault setup.now.objects))) }
 {
     let objects = setup.objects.as_slice();
     if let Some(fault) = ring_fault(constants, objects, setup.rings.as_slice()) {
@@ -135,7 +145,7 @@ fn fault_behind(constants: &Constants, setup: &Setup) -> Option<SetupFault>
     }
     match request_fault(constants, objects, setup.requests.as_slice()) {
         Some(fault) => Some(fault),
-        None => guest_fault(objects, setup.guest.as_slice()),
+        None => fault_at_last(objects, setup.guest.as_slice()),
     }
 }
 
@@ -149,14 +159,14 @@ fn have_numbers(objects: usize, bells: usize) -> bool
 /// The guest memory of a set-up that passes all tests for a device with these constants.
 ///
 /// # Errors
-/// The first test that the set-up fails. Want of memory, also where objects and workers together are more than 4294967295,
-/// since each object and each worker's bell needs a number of its own.
+/// The first test that the set-up fails. Want of memory, also where objects and workers together are more than
+/// 4294967295, since each object and each worker's bell needs a number of its own.
 #[tactic(auto, unfolding(vub_model::specs::ValidSetup::fault_of))]
 pub fn validate(
     alloc: Global,
     setup: &Setup,
     constants: &Constants,
-) -> Result<GuestMemory<()>, DriveFault>
+) -> Result<GuestMemory<PlainLog>, DriveFault>
     ensures refused { IfErr result (λ f. IsRefusal (fault_of constants.now setup.now) f) }
     ensures valid { OnOk result (fault_of constants.now setup.now ≡ None) }
     ensures guest { IfOk result (λ m. m.guest

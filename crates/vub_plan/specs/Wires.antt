@@ -15,6 +15,7 @@ wires_of constants opened =
       max = constants.max;
       features = constants.features;
       protocol = constants.protocol;
+      tracks = constants.tracks;
       masks = constants.masks;
       opened = opened;
     }

@@ -56,6 +56,13 @@ impl Wired {
         self.constants.queues as u32
     }
 
+    /// Whether regions of guest memory may get a log of dirty pages.
+    pub fn tracks(&self) -> bool
+        ensures { result ≡ self.now.tracks }
+    {
+        self.constants.tracks
+    }
+
     /// Whether there is such a queue.
     pub fn has_queue(&self, queue: u32) -> bool
         ensures { result ≡ nat_lt queue self.now.queues }

@@ -7,7 +7,7 @@ use crate::device_op::Backend;
 use crate::refused::Refused;
 use std::alloc::Global;
 use vub_base::{Bytes, OutOfMemory};
-use vub_mem::Region;
+use vub_mem::{BitmapReplace, Region};
 
 /// The device behind a vhost-user daemon (`VhostUserBackendMut` of the Rust crate `vhost-user-backend`).
 ///
@@ -16,6 +16,9 @@ use vub_mem::Region;
 /// value: then each call says what the device means to say at this value, and leaves the value that it means to leave;
 /// only want of memory leaves the value as it was.
 pub trait VhostUserBackendMut: Drop {
+    /// How the device marks dirty pages: its `TRACKS` says whether the regions of guest memory may get a log.
+    type Bitmap: BitmapReplace;
+
     // the device's constants
     ghost queue_count: { Self → ℕ };
 

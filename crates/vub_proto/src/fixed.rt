@@ -48,6 +48,8 @@ impl FixedDevice {
 }
 
 impl VhostUserBackendMut for FixedDevice {
+    type Bitmap = ();
+
     ghost queue_count = { λ d. d.queues };
 
     ghost greatest_size = { λ d. d.max };

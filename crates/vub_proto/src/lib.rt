@@ -3,6 +3,7 @@
 #![tactic(auto)]
 
 mod answer;
+mod backend;
 mod device;
 mod device_op;
 mod device_said;
@@ -14,6 +15,7 @@ mod service;
 mod used;
 
 pub use answer::{Answer, Cause, Denied, ListenerError, VhostUserError};
+pub use backend::VhostUserBackend;
 pub use device::VhostUserBackendMut;
 pub use device_op::{Backend, DeviceOp};
 pub use device_said::DeviceSaid;

@@ -1,11 +1,12 @@
 -- Events and lists that are named stay there over control's steps, and a plan comes to name no other.
-use Rattle.std.proofs.Common.{◌≡◌, ℕ, ◌+◌, nat_lt, Bool, true, false, cond, ◌&&◌, List, [], ◌∷◌, length, map, Option, Some, None, is_some, refl, sym, ap, ◌∙◌, subst, slice_index_or, slice_set}
+use Rattle.std.proofs.Common.{◌≡◌, ℕ, nat_lt, Bool, false, cond, ◌&&◌, List, [], ◌∷◌, length, Option, Some, None, is_some, refl, sym, ap, ◌∙◌, slice_index_or}
 use Rattle.std.proofs.Math.ListN.{get_or-map}
 use Rattle.std.proofs.lemmas.Bool.{cond_both}
 use Rattle.std.proofs.lemmas.List.{length-set}
 use Rattle.vub_event.specs.declared.member.Member.{Member}
-use Rattle.vub_event.specs.HostTable.{HostTable, has_event, has_list}
+use Rattle.vub_event.specs.HostTable.{HostTable, has_event}
 use Rattle.vub_event.specs.HostCalls.{has_both}
+use Rattle.vub_mem.specs.declared.errors.LogError.{LogError}
 use Rattle.vub_mem.specs.declared.errors.MemError.{MemError}
 use Rattle.vub_proto.specs.declared.answer.Answer.{Answer}
 use Rattle.vub_proto.specs.declared.answer.Answer.TheVariants as answer
@@ -15,7 +16,7 @@ use Rattle.vub_proto.specs.declared.device_said.DeviceSaid.{DeviceSaid}
 use Rattle.vub_proto.specs.declared.device_said.DeviceSaid.TheVariants as outcome
 use Rattle.vub_model.specs.declared.small.Small.{Small}
 use Rattle.vub_model.specs.declared.small.Small.TheVariants.{Claim, Release, Add, Delete, Listen, Unlisten, Bell, Remove, Insert, Set, Info, Table, Log, Device, Answer as Answering}
-use Rattle.vub_model.specs.Control.{small_after, waits_now, rest_after, after_outcome, after_refusal, table_refusal, used_index_covers, can_claim, can_add, can_listen, can_unlisten, told, instead, tail_of, drop_two}
+use Rattle.vub_model.specs.Control.{small_after, waits_now, rest_after, after_outcome, after_refusal, after_log_refusal, log_refusal, table_refusal, used_index_covers, can_claim, can_add, can_listen, can_unlisten, told, instead, tail_of, drop_two}
 use Rattle.vub_model.specs.Frame.{Frame, frame_of, is_there}
 use Rattle.vub_model.specs.FrameSteps.{passes, frame_step}
 use Rattle.vub_model.specs.Plans.{Plan}
@@ -147,6 +148,10 @@ rest-named {V} g h s said p all = by s where
   by-refusal None = all
   by-refusal (Some e) = (tt, tt)
 
+  by-log : (e : Option LogError) → P (after_log_refusal e p)
+  by-log None = all
+  by-log (Some e) = (tt, tt)
+
   by : (s : Small) → P (rest_after g h s said p)
   by (Claim object queue) = either (can_claim h.table object queue) p (instead (answer.Failed error.InvalidParam) p) all (alone (answer.Failed error.InvalidParam))
   by (Release object) = all
@@ -160,6 +165,6 @@ rest-named {V} g h s said p all = by s where
   by (Set queue o) = all
   by (Info queue desc avail used) = either (used_index_covers h.guest used) p (told (answer.Failed error.BackendInternalError) p) all all
   by (Table change) = by-refusal (table_refusal h.guest change)
-  by (Log object offset size) = all
+  by (Log object offset size) = by-log (log_refusal g h object offset size)
   by (Device call) = by-outcome said
   by Answering = all

@@ -1,5 +1,5 @@
 -- A plan that was just fixed says no answer that names host or device.
-use Rattle.std.proofs.Common.{◌≡◌, ℕ, ◌+◌, Bool, true, false, cond, not, ◌&&◌, List, [], ◌∷◌, replicate, nat_lt, nat_le, ◌==◌, length, Result, Ok, Err, is_some, Option, refl, sym, ap, ◌∙◌, subst, arith}
+use Rattle.std.proofs.Common.{ℕ, ◌+◌, Bool, true, false, cond, not, List, [], replicate, nat_lt, Result, Ok, Err, is_some, refl, sym, subst, arith}
 use Rattle.std.proofs.lemmas.Bool.{cond_both}
 use Rattle.std.proofs.lemmas.List.{get_or-replicate}
 use Rattle.std.specs.Result.{is_ok}
@@ -7,19 +7,17 @@ use Rattle.vub_mem.specs.declared.errors.MemError.{MemError}
 use Rattle.vub_mem.specs.declared.region.Region.{Region}
 use Rattle.vub_mem.specs.Mappings.{gpa_of}
 use Rattle.vub_queue.specs.Settings.{info_answer}
-use Rattle.vub_proto.specs.declared.answer.Answer.{Answer}
 use Rattle.vub_proto.specs.declared.answer.Denied.TheVariants as denied
 use Rattle.vub_proto.specs.declared.answer.VhostUserError.{VhostUserError}
 use Rattle.vub_proto.specs.declared.answer.VhostUserError.TheVariants as error
 use Rattle.vub_proto.specs.declared.request.Request.{Request}
 use Rattle.vub_proto.specs.declared.request.Request.TheVariants as request
 use Rattle.vub_model.specs.declared.session.Session.{Session}
-use Rattle.vub_model.specs.declared.small.Small.{Small}
 use Rattle.vub_model.specs.declared.wiring.Known.{Known}
 use Rattle.vub_model.specs.Frame.{Frame}
-use Rattle.vub_model.specs.Plans.{Reply, Plan, plan_of, tested, refused, indexed, info_plan, is_empty, is_size, is_listener, are_offered, listener_refused}
+use Rattle.vub_model.specs.Plans.{Plan, plan_of, tested, refused, indexed, info_plan, is_empty, is_size, is_listener, are_offered}
 use Rattle.vub_model.specs.Wiring.{Wiring, has_bit}
-use Rattle.vub_plan.specs.Halves.{Begun, NamesThere, IsPlanOf}
+use Rattle.vub_plan.specs.Halves.{Begun, plan_at, NamesThere, IsPlanOf}
 use Rattle.vub_handler.specs.Playing.{IsCausedReply}
 
 -- it says no answer that names host or device, whatever their counts
@@ -83,43 +81,16 @@ plan-plain g f rs s request.SendExit = λ F R. tt
 abbrev frame-with : List Known → ℕ → Frame
 frame-with known event = record { known = known; lists = []; claims = []; events = replicate (event + 1) true }
 
-pub begun_plain : (g : Wiring) (known : List Known) (s : Session) (r : Request) (b : Begun) → IsPlanOf g known s r b → (F R : Type 0) → IsCausedReply F R b.plan.reply
-begun_plain g known s r b plan F R = by r plan where
-  at : (r : Request) (event : ℕ) → NamesThere (frame-with known event) r → IsPlanOf g known s r b → IsCausedReply F R b.plan.reply
-  at r event there plan = (let P : Reply → Type 0 = IsCausedReply F R in subst P (sym (ap (λ (p : Plan). p.reply) (plan (frame-with known event) [] refl there))) (plan-plain g (frame-with known event) [] s r F R))
+-- what holds of the plan wherever these kicks and flags are known, holds of what is left at the beginning
+pub begun-at : (g : Wiring) (known : List Known) (s : Session) (r : Request) (b : Begun) → IsPlanOf g known s r b → (rs : List Region) (P : Plan → Type 0) → ((f : Frame) → P (plan_of g f rs s r)) → P (plan_at rs b)
+begun-at g known s r b plan rs P holds = by r plan holds where
+  at : (r : Request) (event : ℕ) → NamesThere (frame-with known event) r → IsPlanOf g known s r b → ((f : Frame) → P (plan_of g f rs s r)) → P (plan_at rs b)
+  at r event there plan holds = subst P (sym (plan (frame-with known event) rs refl there)) (holds (frame-with known event))
 
-  by : (r : Request) → IsPlanOf g known s r b → IsCausedReply F R b.plan.reply
-  by (request.RegisterListener worker event set token) plan = at (request.RegisterListener worker event set token) event (get_or-replicate (event + 1) event true false (omega (arith))) plan
-  by (request.UnregisterListener worker event set token) plan = at (request.UnregisterListener worker event set token) event (get_or-replicate (event + 1) event true false (omega (arith))) plan
-  by request.SetOwner plan = at request.SetOwner 0 tt plan
-  by request.ResetOwner plan = at request.ResetOwner 0 tt plan
-  by request.ResetDevice plan = at request.ResetDevice 0 tt plan
-  by request.GetFeatures plan = at request.GetFeatures 0 tt plan
-  by request.GetProtocolFeatures plan = at request.GetProtocolFeatures 0 tt plan
-  by request.GetQueueNum plan = at request.GetQueueNum 0 tt plan
-  by request.GetMaxMemSlots plan = at request.GetMaxMemSlots 0 tt plan
-  by (request.SetFeatures bits) plan = at (request.SetFeatures bits) 0 tt plan
-  by (request.SetProtocolFeatures bits) plan = at (request.SetProtocolFeatures bits) 0 tt plan
-  by (request.SetMemTable parts contents flag) plan = at (request.SetMemTable parts contents flag) 0 tt plan
-  by (request.AddMemRegion part content flag) plan = at (request.AddMemRegion part content flag) 0 tt plan
-  by (request.RemoveMemRegion start len) plan = at (request.RemoveMemRegion start len) 0 tt plan
-  by (request.SetLogBase size offset object) plan = at (request.SetLogBase size offset object) 0 tt plan
-  by (request.SetVringNum queue n) plan = at (request.SetVringNum queue n) 0 tt plan
-  by (request.SetVringAddr queue flags desc used avail log) plan = at (request.SetVringAddr queue flags desc used avail log) 0 tt plan
-  by (request.SetVringBase queue n) plan = at (request.SetVringBase queue n) 0 tt plan
-  by (request.GetVringBase queue) plan = at (request.GetVringBase queue) 0 tt plan
-  by (request.SetVringKick queue event) plan = at (request.SetVringKick queue event) 0 tt plan
-  by (request.SetVringCall queue event) plan = at (request.SetVringCall queue event) 0 tt plan
-  by (request.SetVringErr queue event) plan = at (request.SetVringErr queue event) 0 tt plan
-  by (request.SetVringEnable queue enabled) plan = at (request.SetVringEnable queue enabled) 0 tt plan
-  by (request.GetConfig offset size flags) plan = at (request.GetConfig offset size flags) 0 tt plan
-  by (request.SetConfig offset bytes flags) plan = at (request.SetConfig offset bytes flags) 0 tt plan
-  by (request.SetBackendReqFd object) plan = at (request.SetBackendReqFd object) 0 tt plan
-  by (request.SetGpuSocket object) plan = at (request.SetGpuSocket object) 0 tt plan
-  by request.CheckDeviceState plan = at request.CheckDeviceState 0 tt plan
-  by (request.GetSharedObject uuid) plan = at (request.GetSharedObject uuid) 0 tt plan
-  by (request.SetDeviceStateFd direction phase object) plan = at (request.SetDeviceStateFd direction phase object) 0 tt plan
-  by request.GetShmemConfig plan = at request.GetShmemConfig 0 tt plan
-  by request.GetInflightFd plan = at request.GetInflightFd 0 tt plan
-  by (request.SetInflightFd object) plan = at (request.SetInflightFd object) 0 tt plan
-  by request.SendExit plan = at request.SendExit 0 tt plan
+  by : (r : Request) → IsPlanOf g known s r b → ((f : Frame) → P (plan_of g f rs s r)) → P (plan_at rs b)
+  by (request.RegisterListener worker event set token) plan holds = at (request.RegisterListener worker event set token) event (get_or-replicate (event + 1) event true false (omega (arith))) plan holds
+  by (request.UnregisterListener worker event set token) plan holds = at (request.UnregisterListener worker event set token) event (get_or-replicate (event + 1) event true false (omega (arith))) plan holds
+  by r plan holds = at r 0 tt plan holds
+
+pub begun_plain : (g : Wiring) (known : List Known) (s : Session) (r : Request) (b : Begun) → IsPlanOf g known s r b → (F R : Type 0) → IsCausedReply F R b.plan.reply
+begun_plain g known s r b plan F R = begun-at g known s r b plan [] (λ p. IsCausedReply F R p.reply) (λ f. plan-plain g f [] s r F R)

@@ -1,9 +1,8 @@
 -- Steps that are played one after the other.
-use Rattle.std.proofs.Common.{◌≡◌, ◌⊎◌, inl, inr, ℕ, ◌<◌, ◌≤◌, Result, Ok, Err, IfOk, Bool, true, false, ◌||◌, List, [], ◌∷◌, ◌++◌, length, Option, Some, None, refl, sym, ap, ◌∙◌, subst, arith}
+use Rattle.std.proofs.Common.{◌≡◌, ◌⊎◌, inl, inr, ℕ, ◌<◌, ◌≤◌, Result, Ok, Err, IfOk, Bool, true, false, ◌||◌, List, [], ◌∷◌, ◌++◌, Option, Some, None, refl, sym, ap, ◌∙◌, subst, arith}
 use Rattle.std.proofs.lemmas.List.{append_assoc, append-nil}
 use Rattle.vub_base.specs.Causes.{Rose}
 use Rattle.vub_base.specs.Told.{Told}
-use Rattle.vub_mem.specs.declared.region.Region.{Region}
 use Rattle.vub_proto.specs.declared.answer.Answer.{Answer}
 use Rattle.vub_proto.specs.declared.answer.Answer.TheVariants as answer
 use Rattle.vub_proto.specs.declared.answer.Cause.TheVariants as cause
@@ -13,25 +12,26 @@ use Rattle.vub_proto.specs.declared.device_said.DeviceSaid.TheVariants as outcom
 use Rattle.vub_vring.specs.Calls.{IsCounted}
 use Rattle.vub_proto.specs.declared.request.Request.{Request}
 use Rattle.vub_model.specs.declared.small.Small.{Small}
-use Rattle.vub_model.specs.Control.{small_after, waits_now, rest_after, MayControl, tail_of, instead}
+use Rattle.vub_model.specs.Control.{rest_after, MayControl, tail_of}
 use Rattle.vub_model.specs.DeviceCalls.{Call, Telling, is_refused, moved_by}
 use Rattle.vub_model.specs.DeviceCalls as device_calls
 use Rattle.vub_model.specs.Plans.{Plan, Reply, says, next_of}
 use Rattle.vub_model.specs.Shared.{Shared}
 use Rattle.vub_model.specs.Wiring.{Wiring}
-use Rattle.vub_vring.specs.PartsState.{PartsState, HasFailed, Tells, Lasts}
+use Rattle.vub_vring.specs.PartsState.{PartsState, HasFailed, Lasts}
 use Rattle.vub_plan.specs.Halves.{Begun, plan_at, dropped, IsPlanOf}
 use Rattle.vub_handler.specs.declared.played.Played.{Played}
 use Rattle.vub_handler.specs.Acting.{IsNamed, RowOrFault, HasRefused, IsCausedAnswer, called, CallsBy}
 use Rattle.vub_handler.specs.Player.{Player}
 use Rattle.vub_handler.specs.declared.played.Progress.{Progress}
 use Rattle.vub_handler.specs.declared.played.Progress.TheVariants as progress
-use Rattle.vub_handler.specs.Playing.{CameTo, ComesNearer, IsHeld, WaitsAt, PlayedBy, left_of, IsKnown, IsPlayRow, IsPlayFault, IsCausedReply, IsDueFrom, IsPlayed, host_answer}
+use Rattle.vub_handler.specs.Playing.{CameTo, ComesNearer, IsHeld, WaitsAt, left_of, IsKnown, IsPlayRow, IsPlayFault, IsCausedReply, IsDueFrom, IsPlayed}
 use Rattle.vub_requests.specs.Handling.{HandledStep, AllNamed, IsNext, LeadTo, AnswersLast, ArePlays, ArePlanned, calls_of, has_refusal, IsCausedBy, PlaysAll, answer_in, Finishes, HandledBy}
 use Rattle.vub_requests.specs.declared.unanswered.Unanswered.{Unanswered}
 use Rattle.vub_requests.specs.declared.unanswered.Unanswered.TheVariants.{Waits, OutOfMemory}
 use Rattle.vub_requests.proofs.Plain.{begun_plain}
 use Rattle.vub_requests.proofs.Named.{named-after, rest-named}
+use Rattle.vub_requests.proofs.Waiting.{waits-in-flight}
 
 -- Counts
 
@@ -397,6 +397,7 @@ module _ {V D : Type 0} (t : Telling D) (request : Request) where
     plan = plan;
     plays = plays;
     caused = answer-caused (HasFailed old new) (HasRefused old new) begun.plan.reply left.plan.reply result plays.plays.caused (begun_plain before.wiring before.known before.session request begun plan (HasFailed old new) (HasRefused old new));
+    waits = waits-in-flight t request before now old new begun left result plan plays;
   }
 
   pub unbegun : (held : Player) (state : PartsState V D) → HandledBy t request held held state state (Err OutOfMemory)

@@ -1,17 +1,19 @@
 -- A request that is played to its end: its steps, one after the other, and what they leave of the session, of what is
 -- shared and of the device.
-use Rattle.std.specs.Prelude.{◌≡◌, ◌⊎◌, ◌+◌, Bool, true, List, [], ◌∷◌, ◌++◌, Option, Some, None, Result, Ok, Err, IfOk}
+use Rattle.std.specs.Prelude.{◌≡◌, ◌⊎◌, ℕ, Bool, true, List, [], ◌∷◌, ◌++◌, Option, Some, None, Result, Ok, Err, IfOk}
 use Rattle.std.specs.List.{list_any}
 use Rattle.vub_mem.specs.declared.region.Region.{Region}
 use Rattle.vub_event.specs.HostTable.{HostTable}
 use Rattle.vub_proto.specs.declared.answer.Answer.{Answer}
 use Rattle.vub_proto.specs.declared.device_said.DeviceSaid.{DeviceSaid}
 use Rattle.vub_proto.specs.declared.request.Request.{Request}
+use Rattle.vub_proto.specs.declared.request.Request.TheVariants as request
+use Rattle.vub_model.specs.declared.flight.Flight.TheVariants.{InFlight}
 use Rattle.vub_model.specs.declared.small.Small.{Small}
 use Rattle.vub_model.specs.Control.{tail_of}
 use Rattle.vub_model.specs.DeviceCalls.{Call, Telling, is_refused}
 use Rattle.vub_model.specs.Plans.{Reply}
-use Rattle.vub_model.specs.Shared.{Shared}
+use Rattle.vub_model.specs.Shared.{Shared, ring_at}
 use Rattle.vub_model.specs.Wiring.{Wiring}
 use Rattle.vub_vring.specs.PartsState.{PartsState, HasFailed, Tells, Lasts, IsUntouched}
 use Rattle.vub_plan.specs.Halves.{Begun, plan_at, IsPlanOf}
@@ -106,6 +108,27 @@ abbrev pub IsLeft : {V D : Type 0} → Result Answer Unanswered → Begun → Pa
 IsLeft (Err Waits) left old new = Tells old new (λ a b. WaitsAt b (plan_at b.guest.regions left).steps)
 IsLeft result left old new = Unit {0}
 
+-- the queue whose entry in flight a request waits for: other requests never wait
+abbrev pub ring_waited : Request → Option ℕ
+ring_waited (request.SetVringNum queue n) = Some queue
+ring_waited (request.SetVringAddr queue flags desc used avail log) = Some queue
+ring_waited (request.SetVringBase queue n) = Some queue
+ring_waited (request.GetVringBase queue) = Some queue
+ring_waited r = None
+
+abbrev pub HasInFlight : {V : Type 0} → Shared V → Option ℕ → Type 0
+HasInFlight h None = ⊥
+HasInFlight h (Some queue) = (ring_at h queue).flight ≡ InFlight
+
+-- where the events and lists that its plan's steps name are there, a request waits only while its queue has an entry in
+-- flight
+abbrev pub WaitsInFlight : {V D : Type 0} → Request → Player → Begun → PartsState V D → PartsState V D
+    → Result Answer Unanswered → Type 0
+WaitsInFlight r before begun old new (Err Waits) =
+    Tells old new (λ a b. AllNamed before.wiring a.table (plan_at a.guest.regions begun).steps
+    → HasInFlight b (ring_waited r))
+WaitsInFlight r before begun old new result = Unit {0}
+
 -- what is left of a request was played to its end, or to where it is left
 pub record Finishes {V D : Type 0} (t : Telling D) (before now : Player) (was left : Begun) (old new : PartsState V D)
     (result : Result Answer Unanswered) : Type 0 where
@@ -121,6 +144,7 @@ pub record Handles {V D : Type 0} (t : Telling D) (request : Request) (before no
   pub plays : Finishes t before now begun left old new result
   -- told or not, an answer names host or device as its cause only where their counts rose
   pub caused : IfOk result (IsCausedAnswer (HasFailed old new) (HasRefused old new))
+  pub waits : WaitsInFlight request before begun old new result
 
 -- memory was refused before the request had its plan: nothing changes
 pub record IsUnbegun {V D : Type 0} (before now : Player) (old new : PartsState V D) (result : Result Answer Unanswered)

@@ -15,7 +15,7 @@ pub use device::{
 };
 pub use handling::{handle, handle_with};
 pub use listeners::{register_listener, send_exit, unregister_listener};
-pub use memory::{add_mem_region, remove_mem_region, set_mem_table};
+pub use memory::{add_mem_region, remove_mem_region, set_log_base, set_mem_table};
 pub use rings::{
     get_vring_base, set_vring_addr, set_vring_base, set_vring_call, set_vring_enable,
     set_vring_err, set_vring_kick, set_vring_num,
@@ -26,3 +26,6 @@ pub use session::{
 };
 pub use unanswered::Unanswered;
 pub use vub_handler::VhostUserHandler;
+
+#[cfg(test)]
+mod tests;

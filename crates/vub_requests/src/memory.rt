@@ -85,3 +85,30 @@ pub fn remove_mem_region<P: Parts>(
         Request::RemoveMemRegion { start, len },
     )
 }
+
+/// Gives each region of guest memory the `size` bytes of a log from `offset` on as its log of dirty pages.
+///
+/// # Errors
+/// Those of `handle`.
+pub fn set_log_base<P: Parts>(
+    handler: &mut VhostUserHandler,
+    alloc: Global,
+    parts: &mut P,
+    size: u64,
+    offset: u64,
+    object: u32,
+) -> Result<Answer, Unanswered>
+    ensures { HandledBy (telling P.Device.said P.Device.moved) (Request.SetLogBase size offset object)
+        handler.old handler.new (P.state parts.old) (P.state parts.new) result }
+{
+    handle(
+        handler,
+        alloc,
+        parts,
+        Request::SetLogBase {
+            size,
+            offset,
+            object,
+        },
+    )
+}

@@ -1,6 +1,8 @@
 //! The named calls of a queue.
+ghost use Rattle.std.specs.Prelude.{◌≡◌, false};
 ghost use Rattle.vub_vring.specs.Calls.{telling};
 ghost use Rattle.vub_requests.specs.Handling.{HandledBy};
+ghost use Rattle.vub_requests.specs.OffList.{TakesOff};
 
 use crate::handling::handle;
 use crate::unanswered::Unanswered;
@@ -76,7 +78,8 @@ pub fn set_vring_base<P: Parts>(
     handle(handler, alloc, parts, Request::SetVringBase { queue, base })
 }
 
-/// Stops a queue, and answers the number of its next entry.
+/// Stops a queue, and answers the number of its next entry. Its kick is then off its worker's interest list, and its
+/// event number is not pending.
 ///
 /// # Errors
 /// Those of `handle`.
@@ -86,8 +89,9 @@ pub fn get_vring_base<P: Parts>(
     parts: &mut P,
     queue: u32,
 ) -> Result<Answer, Unanswered>
-    ensures { HandledBy (telling P.Device.said P.Device.moved) (Request.GetVringBase queue)
+    ensures handled { HandledBy (telling P.Device.said P.Device.moved) (Request.GetVringBase queue)
         handler.old handler.new (P.state parts.old) (P.state parts.new) result }
+    ensures off { TakesOff handler.old queue (P.state parts.old) (P.state parts.new) result }
 {
     handle(handler, alloc, parts, Request::GetVringBase { queue })
 }
@@ -153,7 +157,8 @@ pub fn set_vring_err<P: Parts>(
     handle(handler, alloc, parts, Request::SetVringErr { queue, event })
 }
 
-/// Enables or disables a queue.
+/// Enables or disables a queue. The kick of a disabled one is then off its worker's interest list, and its event number
+/// is not pending.
 ///
 /// # Errors
 /// Those of `handle`.
@@ -164,8 +169,9 @@ pub fn set_vring_enable<P: Parts>(
     queue: u32,
     enabled: bool,
 ) -> Result<Answer, Unanswered>
-    ensures { HandledBy (telling P.Device.said P.Device.moved) (Request.SetVringEnable queue enabled)
+    ensures handled { HandledBy (telling P.Device.said P.Device.moved) (Request.SetVringEnable queue enabled)
         handler.old handler.new (P.state parts.old) (P.state parts.new) result }
+    ensures off { enabled ≡ false → TakesOff handler.old queue (P.state parts.old) (P.state parts.new) result }
 {
     handle(
         handler,

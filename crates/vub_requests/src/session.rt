@@ -1,6 +1,7 @@
 //! The named calls of a session: owner, features and what is offered.
 ghost use Rattle.vub_vring.specs.Calls.{telling};
 ghost use Rattle.vub_requests.specs.Handling.{HandledBy};
+ghost use Rattle.vub_requests.specs.OffList.{TakesAllOff};
 
 use crate::handling::handle;
 use crate::unanswered::Unanswered;
@@ -39,7 +40,8 @@ pub fn reset_owner<P: Parts>(
     handle(handler, alloc, parts, Request::ResetOwner)
 }
 
-/// Disables every queue, and resets the device.
+/// Disables every queue, and resets the device. Each queue's kick is then off its worker's interest list, and its event
+/// number is not pending.
 ///
 /// # Errors
 /// Those of `handle`.
@@ -48,8 +50,9 @@ pub fn reset_device<P: Parts>(
     alloc: Global,
     parts: &mut P,
 ) -> Result<Answer, Unanswered>
-    ensures { HandledBy (telling P.Device.said P.Device.moved) Request.ResetDevice
+    ensures handled { HandledBy (telling P.Device.said P.Device.moved) Request.ResetDevice
         handler.old handler.new (P.state parts.old) (P.state parts.new) result }
+    ensures off { TakesAllOff handler.old (P.state parts.old) (P.state parts.new) result }
 {
     handle(handler, alloc, parts, Request::ResetDevice)
 }

@@ -13,12 +13,20 @@ mod hostile;
 #[cfg(test)]
 mod kicks;
 #[cfg(test)]
+mod logs;
+#[cfg(test)]
+mod making;
+#[cfg(test)]
 mod playing;
+#[cfg(test)]
+mod refusals;
 #[cfg(test)]
 mod rings;
 #[cfg(test)]
 mod rows;
 #[cfg(test)]
 mod runs;
+#[cfg(test)]
+mod session;
 #[cfg(test)]
 mod workers;

@@ -1,3 +1,5 @@
 pub mod Digits
 pub mod Trees
 pub mod Texts
+pub mod Refusals
+pub mod Served

@@ -4,6 +4,7 @@ use Rattle.std.specs.List.{list_all}
 use Rattle.std.specs.Map.{keys_of}
 use Rattle.std.specs.BTreeMap.{keys}
 use Rattle.serde_json.specs.Data.{Data}
+use Rattle.serde_json.specs.Find.{as_array}
 use Rattle.serde_json.specs.View.{view, items_view, members_view}
 use Rattle.serde_json.specs.declared.value.Value.{Value, Array, Object}
 use Rattle.serde_json.proofs.Views.{Entry, view-Array, view-Object}
@@ -44,3 +45,6 @@ object_keys p m = sym (entries_keys p m.entries) ∙ ap (object_keys_are p) (sym
 -- what the elements from i on give, after those before them
 abbrev pub onward : {A : Type 0} → (Data → Option A) → List A → ℕ → List Value → Option (List A)
 onward f front i vs = option_map (λ xs. front ++ xs) (each f (map view (drop i vs)))
+
+pub elements_of_array : (v : Vec Value Global) → option_map items_list (as_array (view (Array v))) ≡ Some (map view v.items)
+elements_of_array v = ap (λ d. option_map items_list (as_array d)) (view-Array v) ∙ ap Some (items_listed v.items)

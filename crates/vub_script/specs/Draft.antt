@@ -15,7 +15,10 @@ use Rattle.vub_script.specs.Regions.{region_of}
 use Rattle.vub_script.specs.Rings.{ring_of}
 use Rattle.vub_script.specs.Requests.{request_of}
 use Rattle.vub_script.specs.Guest.{guest_of}
+use Rattle.vub_script.specs.Directory.{service_of}
 use Rattle.vub_script.specs.Keys.{has_form}
+use Rattle.vub_script.specs.Bitmaps.{bitmap_of}
+use Rattle.vub_script.specs.declared.device_form.BitmapForm.TheVariants.{None as NoPages}
 
 -- What is left out is one queue and one worker, whose mask has the queues 0 to 31. The features are VIRTIO_F_VERSION_1
 -- (bit 32), VHOST_USER_F_PROTOCOL_FEATURES (30), VIRTIO_RING_F_EVENT_IDX (29) and VHOST_F_LOG_ALL (26); the protocol
@@ -28,6 +31,7 @@ device_of d = do
   features ← or_default 5972688896 number_of (get (codes "features") d)
   protocol ← or_default 522 number_of (get (codes "protocol") d)
   config ← or_default [] bytes_of (get (codes "config") d)
+  bitmap ← or_default NoPages bitmap_of (get (codes "bitmap") d)
   exits ← or_default [] (list_of (or_null u32_of)) (get (codes "exits") d)
   refuse ← or_default [] (list_of number_of) (get (codes "refuse") d)
   Some (record {
@@ -37,7 +41,7 @@ device_of d = do
     features = features;
     protocol = protocol;
     config = config;
-    pages = false;
+    bitmap = bitmap;
     exits = exits;
     refuse = refuse;
   })
@@ -50,6 +54,7 @@ fields_of d = do
   requests ← or_default [] (list_of request_of) (get (codes "requests") d)
   guest ← or_default [] (list_of guest_of) (get (codes "guest") d)
   device ← device_of d
+  service ← or_default Echo service_of (get (codes "service") d)
   listed ← or_default [] (list_of u32_of) (get (codes "schedule") d)
   rounds ← or_default 0 number_of (get (codes "rounds") d)
   Some (record {
@@ -59,7 +64,7 @@ fields_of d = do
     requests = requests;
     guest = guest;
     device = device;
-    service = Echo;
+    service = service;
     listed = listed;
     rounds = rounds;
   })

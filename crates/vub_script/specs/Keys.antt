@@ -21,8 +21,8 @@ object_keys_are p (object ms) = keys_are p ms
 
 abbrev pub is_setup_key : List ℕ → Bool
 is_setup_key k =
-    bytes_eq k (codes "objects") || bytes_eq k (codes "regions") || bytes_eq k (codes "rings") ||
-    bytes_eq k (codes "requests") || bytes_eq k (codes "guest")
+    bytes_eq k (codes "service") || bytes_eq k (codes "objects") || bytes_eq k (codes "regions") ||
+    bytes_eq k (codes "rings") || bytes_eq k (codes "requests") || bytes_eq k (codes "guest")
 
 abbrev pub is_device_number_key : List ℕ → Bool
 is_device_number_key k =
@@ -34,7 +34,7 @@ is_device_list_key k =
     bytes_eq k (codes "masks") || bytes_eq k (codes "config") || bytes_eq k (codes "exits") || bytes_eq k (codes "refuse")
 
 abbrev pub is_device_key : List ℕ → Bool
-is_device_key k = is_device_number_key k || is_device_list_key k
+is_device_key k = is_device_number_key k || is_device_list_key k || bytes_eq k (codes "bitmap")
 
 abbrev pub is_turn_key : List ℕ → Bool
 is_turn_key k = bytes_eq k (codes "schedule") || bytes_eq k (codes "rounds")

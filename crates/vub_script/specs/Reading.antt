@@ -13,7 +13,7 @@ None >>= f = None
 -- a reader's answer is what the grammar gives, unless memory was refused
 abbrev pub Gives : {X : Type 0} → Result X Refusal → Option X → Type 0
 Gives (Ok x) want = want ≡ Some x
-Gives (Err NoScript) want = want ≡ None
+Gives (Err (NoScript fault)) want = want ≡ None
 Gives (Err OutOfMemory) want = Unit {0}
 
 -- what stands at a key, or the default where the key is missing

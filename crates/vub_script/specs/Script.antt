@@ -6,7 +6,7 @@ use Rattle.std.specs.List.{range_with_len, repeat}
 use Rattle.std.specs.Str.{is_utf8}
 use Rattle.serde_json.specs.Read.{read}
 use Rattle.vub_model.specs.declared.setup.Object.{Object}
-use Rattle.vub_model.specs.declared.setup.Object.TheVariants.{Event, Content}
+use Rattle.vub_model.specs.declared.setup.Object.TheVariants.{Event, Content, Log}
 use Rattle.vub_script.specs.declared.draft.Draft.{Draft}
 use Rattle.vub_script.specs.declared.draft.ObjectDraft.{ObjectDraft}
 use Rattle.vub_script.specs.declared.draft.ObjectDraft.TheVariants as draft
@@ -25,6 +25,7 @@ abbrev pub content_len : ObjectDraft → ℕ
 content_len (draft.Event flags) = 0
 content_len (draft.Zeros n) = n
 content_len (draft.Content bytes) = length bytes
+content_len (draft.Log len) = len
 
 abbrev pub content_total : List ObjectDraft → ℕ
 content_total [] = 0
@@ -37,7 +38,7 @@ turn_total listed rounds workers = listed + rounds * (workers + 2)
 abbrev pub are_turns_within : ℕ → ℕ → ℕ → Bool
 are_turns_within listed rounds workers = nat_le (turn_total listed rounds workers) 4194304
 
--- at most 67108864 bytes in all contents together, and at most 4194304 turns
+-- at most 67108864 bytes in all contents and logs together, and at most 4194304 turns
 unfoldable pub is_within : Draft → Bool
 is_within d =
     nat_le (content_total d.objects) 67108864 && are_turns_within (length d.listed) d.rounds (length d.device.masks)
@@ -48,6 +49,7 @@ abbrev pub object_from : ObjectDraft → Object
 object_from (draft.Event flags) = Event flags
 object_from (draft.Zeros n) = Content (replicate n 0)
 object_from (draft.Content bytes) = Content bytes
+object_from (draft.Log len) = Log len
 
 -- the parties of one round: the guest 0, the control party 1, and the workers from 2 on
 abbrev pub parties : ℕ → List ℕ

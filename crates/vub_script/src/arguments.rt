@@ -5,18 +5,20 @@ ghost use Rattle.serde_json.specs.View.{view};
 ghost use Rattle.vub_script.specs.Reading.{Gives};
 ghost use Rattle.vub_script.specs.Arguments.{none, one, two, three, four, two_or_three};
 
+use crate::fault::Fault;
 use crate::refusal::Refusal;
-use crate::tree::FromTree;
+use crate::rule::Rule;
+use crate::tree::{FromTree, element_at};
 use serde_json::Value;
 use std::alloc::Global;
 
 /// No argument.
-pub fn no_argument(list: &[Value]) -> Result<(), Refusal>
+pub fn no_argument(alloc: Global, list: &[Value]) -> Result<(), Refusal>
     ensures { Gives result (none (map view list.now)) }
 {
     match list {
         [] => Ok(()),
-        _ => Err(Refusal::NoScript),
+        _ => Err(Refusal::NoScript(Fault::of(alloc, Rule::Arguments))),
     }
 }
 
@@ -25,8 +27,8 @@ pub fn one_argument<A: FromTree>(alloc: Global, list: &[Value]) -> Result<A, Ref
     ensures { Gives result (one A.reads (map view list.now)) }
 {
     match list {
-        [first] => A::from_tree(alloc, first),
-        _ => Err(Refusal::NoScript),
+        [first] => element_at(alloc, first, 1),
+        _ => Err(Refusal::NoScript(Fault::of(alloc, Rule::Arguments))),
     }
 }
 
@@ -39,11 +41,11 @@ pub fn two_arguments<A: FromTree, B: FromTree>(
 {
     match list {
         [first, second] => {
-            let first = A::from_tree(alloc, first)?;
-            let second = B::from_tree(alloc, second)?;
+            let first = element_at(alloc, first, 1)?;
+            let second = element_at(alloc, second, 2)?;
             Ok((first, second))
         }
-        _ => Err(Refusal::NoScript),
+        _ => Err(Refusal::NoScript(Fault::of(alloc, Rule::Arguments))),
     }
 }
 
@@ -56,12 +58,12 @@ pub fn three_arguments<A: FromTree, B: FromTree, C: FromTree>(
 {
     match list {
         [first, second, third] => {
-            let first = A::from_tree(alloc, first)?;
-            let second = B::from_tree(alloc, second)?;
-            let third = C::from_tree(alloc, third)?;
+            let first = element_at(alloc, first, 1)?;
+            let second = element_at(alloc, second, 2)?;
+            let third = element_at(alloc, third, 3)?;
             Ok((first, second, third))
         }
-        _ => Err(Refusal::NoScript),
+        _ => Err(Refusal::NoScript(Fault::of(alloc, Rule::Arguments))),
     }
 }
 
@@ -74,13 +76,13 @@ pub fn four_arguments<A: FromTree, B: FromTree, C: FromTree, D: FromTree>(
 {
     match list {
         [first, second, third, fourth] => {
-            let first = A::from_tree(alloc, first)?;
-            let second = B::from_tree(alloc, second)?;
-            let third = C::from_tree(alloc, third)?;
-            let fourth = D::from_tree(alloc, fourth)?;
+            let first = element_at(alloc, first, 1)?;
+            let second = element_at(alloc, second, 2)?;
+            let third = element_at(alloc, third, 3)?;
+            let fourth = element_at(alloc, fourth, 4)?;
             Ok((first, second, third, fourth))
         }
-        _ => Err(Refusal::NoScript),
+        _ => Err(Refusal::NoScript(Fault::of(alloc, Rule::Arguments))),
     }
 }
 
@@ -93,16 +95,16 @@ pub fn two_or_three_arguments<A: FromTree, B: FromTree, C: FromTree>(
 {
     match list {
         [first, second] => {
-            let first = A::from_tree(alloc, first)?;
-            let second = B::from_tree(alloc, second)?;
+            let first = element_at(alloc, first, 1)?;
+            let second = element_at(alloc, second, 2)?;
             Ok((first, second, None))
         }
         [first, second, third] => {
-            let first = A::from_tree(alloc, first)?;
-            let second = B::from_tree(alloc, second)?;
-            let third = C::from_tree(alloc, third)?;
+            let first = element_at(alloc, first, 1)?;
+            let second = element_at(alloc, second, 2)?;
+            let third = element_at(alloc, third, 3)?;
             Ok((first, second, Some(third)))
         }
-        _ => Err(Refusal::NoScript),
+        _ => Err(Refusal::NoScript(Fault::of(alloc, Rule::Arguments))),
     }
 }

@@ -1,5 +1,14 @@
 use vub_base::{Bytes, Listed};
 
+/// How the device tracks the pages that it changes.
+#[derive(Clone, Copy, Debug, PartialEq, Eq)]
+pub enum BitmapForm {
+    /// Not at all: no region of guest memory gets a log.
+    None,
+    /// In a log, with one bit a page.
+    Pages,
+}
+
 /// What a script says of its device. The device answers its front-end by these constants.
 #[derive(Debug, Drop)]
 pub struct DeviceForm {
@@ -15,8 +24,8 @@ pub struct DeviceForm {
     pub protocol: u64,
     /// The bytes of the configuration space.
     pub config: Bytes,
-    /// Whether changed pages are tracked in a log.
-    pub pages: bool,
+    /// How changed pages are tracked.
+    pub bitmap: BitmapForm,
     /// For each worker the event object that ends it, or none.
     pub exits: Listed<Option<u32>>,
     /// The numbers of the calls that the device refuses, counted from 0 over the run.

@@ -13,6 +13,8 @@ pub enum ObjectDraft {
     Zeros { length: u64 },
     /// These bytes.
     Content(Bytes),
+    /// A log of dirty pages of so many bytes.
+    Log { len: u32 },
 }
 
 /// What a script says, with its numbers as they were read: a content given by its length and the rounds are not

@@ -1,22 +1,23 @@
 ghost use Rattle.std.specs.Prelude.{map};
 ghost use Rattle.serde_json.specs.View.{view};
 ghost use Rattle.vub_script.specs.Reading.{Gives};
-ghost use Rattle.vub_script.specs.Guest.{store_of, signal_of, guest_form, guest_of};
+ghost use Rattle.vub_script.specs.Guest.{store_of, signal_of, harvest_of, action_called, guest_form, guest_of};
 
+use crate::arguments::{one_argument, three_arguments, two_arguments};
+use crate::fault::Fault;
 use crate::leaves::is_the_text;
 use crate::refusal::Refusal;
+use crate::rule::Rule;
 use crate::tree::FromTree;
 use serde_json::Value;
 use std::alloc::Global;
 use vub_base::Bytes;
 use vub_model::Guest;
 
-fn store_at(alloc: Global, object: &Value, offset: &Value, bytes: &Value) -> Result<Guest, Refusal>
-    ensures { Gives result (store_of (view object.now) (view offset.now) (view bytes.now)) }
+fn store_from(alloc: Global, list: &[Value]) -> Result<Guest, Refusal>
+    ensures { Gives result (store_of (map view list.now)) }
 {
-    let object = u32::from_tree(alloc, object)?;
-    let offset = u64::from_tree(alloc, offset)?;
-    let bytes = Bytes::from_tree(alloc, bytes)?;
+    let (object, offset, bytes) = three_arguments::<u32, u64, Bytes>(alloc, list)?;
     Ok(Guest::Store {
         object,
         offset,
@@ -24,22 +25,41 @@ fn store_at(alloc: Global, object: &Value, offset: &Value, bytes: &Value) -> Res
     })
 }
 
-fn signal_at(alloc: Global, object: &Value) -> Result<Guest, Refusal>
-    ensures { Gives result (signal_of (view object.now)) }
+fn signal_from(alloc: Global, list: &[Value]) -> Result<Guest, Refusal>
+    ensures { Gives result (signal_of (map view list.now)) }
 {
-    let object = u32::from_tree(alloc, object)?;
+    let object: u32 = one_argument(alloc, list)?;
     Ok(Guest::Signal { object })
+}
+
+fn harvest_from(alloc: Global, list: &[Value]) -> Result<Guest, Refusal>
+    ensures { Gives result (harvest_of (map view list.now)) }
+{
+    let (object, word) = two_arguments::<u32, u64>(alloc, list)?;
+    Ok(Guest::Harvest { object, word })
+}
+
+/// The action with this name and these arguments.
+fn action_called(alloc: Global, word: &Value, list: &[Value]) -> Result<Guest, Refusal>
+    ensures { Gives result (action_called (view word.now) (map view list.now)) }
+{
+    if is_the_text(word, "store") {
+        store_from(alloc, list)
+    } else if is_the_text(word, "signal") {
+        signal_from(alloc, list)
+    } else if is_the_text(word, "harvest") {
+        harvest_from(alloc, list)
+    } else {
+        Err(Refusal::NoScript(Fault::of(alloc, Rule::Action)))
+    }
 }
 
 fn action_at(alloc: Global, list: &[Value]) -> Result<Guest, Refusal>
     ensures { Gives result (guest_form (map view list.now)) }
 {
     match list {
-        [word, object] if is_the_text(word, "signal") => signal_at(alloc, object),
-        [word, object, offset, bytes] if is_the_text(word, "store") => {
-            store_at(alloc, object, offset, bytes)
-        }
-        _ => Err(Refusal::NoScript),
+        [word, arguments @ ..] => action_called(alloc, word, arguments),
+        _ => Err(Refusal::NoScript(Fault::of(alloc, Rule::Action))),
     }
 }
 
@@ -50,7 +70,7 @@ impl FromTree for Guest {
     fn from_tree(alloc: Global, value: &Value) -> Result<Guest, Refusal> {
         match value {
             Value::Array(list) => action_at(alloc, list),
-            _ => Err(Refusal::NoScript),
+            _ => Err(Refusal::NoScript(Fault::of(alloc, Rule::Action))),
         }
     }
 }

@@ -4,12 +4,21 @@ ghost use Rattle.std.specs.BTreeMap.{keys};
 ghost use Rattle.serde_json.specs.View.{view};
 ghost use Rattle.vub_script.specs.Keys.{is_setup_key, is_device_number_key, is_device_list_key, is_device_key, is_turn_key, is_key, has_form, is_ring_place_key, is_ring_state_key, is_ring_key, has_ring_form};
 
+use crate::fault::{Fault, Step};
+use crate::rule::Rule;
 use serde_json::{Map, Value};
+use std::alloc::Global;
+use vub_base::OutOfMemory;
 
 fn is_a_setup_key(key: &str) -> bool
     ensures { result ≡ is_setup_key key.now }
 {
-    key == "objects" || key == "regions" || key == "rings" || key == "requests" || key == "guest"
+    key == "service"
+        || key == "objects"
+        || key == "regions"
+        || key == "rings"
+        || key == "requests"
+        || key == "guest"
 }
 
 fn is_a_device_number_key(key: &str) -> bool
@@ -27,7 +36,7 @@ fn is_a_device_list_key(key: &str) -> bool
 fn is_a_device_key(key: &str) -> bool
     ensures { result ≡ is_device_key key.now }
 {
-    is_a_device_number_key(key) || is_a_device_list_key(key)
+    is_a_device_number_key(key) || is_a_device_list_key(key) || key == "bitmap"
 }
 
 fn is_a_turn_key(key: &str) -> bool
@@ -56,6 +65,23 @@ pub fn is_in_form(value: &Value) -> bool
         Value::Object(map) => has_only_keys(map),
         _ => false,
     }
+}
+
+/// The fault of the first key that is no key of a script; where there is none, the tree is no object.
+pub fn script_fault(alloc: Global, value: &Value) -> Result<Fault, OutOfMemory> {
+    let Value::Object(map) = value else {
+        return Ok(Fault::of(alloc, Rule::Script));
+    };
+    match map.keys().find(|key| !is_a_key(key.as_str())) {
+        Some(key) => key_fault(alloc, key.as_str(), Rule::ScriptKey),
+        None => Ok(Fault::of(alloc, Rule::Script)),
+    }
+}
+
+/// The fault of this key.
+fn key_fault(alloc: Global, key: &str, rule: Rule) -> Result<Fault, OutOfMemory> {
+    let key = String::from_str(alloc, key)?;
+    Fault::of(alloc, rule).below(Step::Member(key))
 }
 
 fn is_a_ring_place_key(key: &str) -> bool
@@ -89,5 +115,16 @@ pub fn is_in_ring_form(value: &Value) -> bool
     match value {
         Value::Object(map) => has_only_ring_keys(map),
         _ => false,
+    }
+}
+
+/// The fault of the first key that is no key of a ring; where there is none, the tree is no object.
+pub fn ring_fault(alloc: Global, value: &Value) -> Result<Fault, OutOfMemory> {
+    let Value::Object(map) = value else {
+        return Ok(Fault::of(alloc, Rule::Ring));
+    };
+    match map.keys().find(|key| !is_a_ring_key(key.as_str())) {
+        Some(key) => key_fault(alloc, key.as_str(), Rule::RingKey),
+        None => Ok(Fault::of(alloc, Rule::Ring)),
     }
 }

@@ -2,7 +2,9 @@ ghost use Rattle.std.specs.Prelude.{◌≡◌};
 ghost use Rattle.serde_json.specs.View.{view};
 ghost use Rattle.vub_script.specs.Leaves.{bool_of, or_null, is_text};
 
+use crate::fault::Fault;
 use crate::refusal::Refusal;
+use crate::rule::Rule;
 use crate::tree::FromTree;
 use serde_json::Value;
 use std::alloc::Global;
@@ -10,8 +12,11 @@ use std::alloc::Global;
 impl FromTree for bool {
     ghost reads = { bool_of };
 
-    fn from_tree(_alloc: Global, value: &Value) -> Result<bool, Refusal> {
-        value.as_bool().ok_or(Refusal::NoScript)
+    fn from_tree(alloc: Global, value: &Value) -> Result<bool, Refusal> {
+        match value.as_bool() {
+            Some(truth) => Ok(truth),
+            None => Err(Refusal::NoScript(Fault::of(alloc, Rule::Truth))),
+        }
     }
 }
 

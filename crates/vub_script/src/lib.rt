@@ -3,9 +3,12 @@
 #![tactic(auto)]
 
 mod arguments;
+mod bitmaps;
 mod calls;
 mod device_form;
 mod draft;
+mod entries;
+mod fault;
 mod guest;
 mod hexadecimal;
 mod keys;
@@ -20,17 +23,21 @@ mod refusal;
 mod regions;
 mod requests;
 mod rings;
+mod rule;
 mod script;
 mod service_form;
+mod services;
 mod tree;
 mod whole;
 mod write_out;
 
-pub use device_form::DeviceForm;
+pub use device_form::{BitmapForm, DeviceForm};
 pub use draft::{Draft, ObjectDraft};
-pub use limits::is_within_limits;
+pub use fault::Fault;
+pub use limits::{Limit, is_within_limits, limit_passed};
 pub use read::draft_of_bytes;
 pub use refusal::Refusal;
+pub use rule::Rule;
 pub use script::{Script, script_of};
 pub use service_form::ServiceForm;
 pub use whole::draft_from;

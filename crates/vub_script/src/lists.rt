@@ -3,8 +3,10 @@ ghost use Rattle.serde_json.specs.View.{view};
 ghost use Rattle.vub_script.specs.Reading.{Gives};
 ghost use Rattle.vub_script.specs.Lists.{each, list_of};
 
+use crate::fault::Fault;
 use crate::refusal::Refusal;
-use crate::tree::FromTree;
+use crate::rule::Rule;
+use crate::tree::{FromTree, element_at};
 use serde_json::Value;
 use std::alloc::Global;
 use vub_base::Listed;
@@ -14,8 +16,8 @@ fn each_of<T: FromTree>(alloc: Global, list: &[Value]) -> Result<Listed<T>, Refu
     ensures { Gives result (each T.reads (map view list.now)) }
 {
     let mut found: Listed<T> = Listed::new(alloc);
-    for value in list {
-        let part = T::from_tree(alloc, value)?;
+    for (number, value) in list.iter().enumerate() {
+        let part = element_at(alloc, value, number)?;
         found.push(part)?;
     }
     Ok(found)
@@ -27,7 +29,7 @@ impl<T: FromTree> FromTree for Listed<T> {
     fn from_tree(alloc: Global, value: &Value) -> Result<Listed<T>, Refusal> {
         match value {
             Value::Array(list) => each_of(alloc, list),
-            _ => Err(Refusal::NoScript),
+            _ => Err(Refusal::NoScript(Fault::of(alloc, Rule::List))),
         }
     }
 }

@@ -1,11 +1,15 @@
 ghost use Rattle.std.specs.Prelude.{◌≡◌};
 ghost use Rattle.std.specs.List.{list_all};
+ghost use Rattle.serde_json.specs.Find.{as_u64};
+ghost use Rattle.serde_json.specs.View.{number_view};
 ghost use Rattle.vub_script.specs.Reading.{Gives};
 ghost use Rattle.vub_script.specs.Numbers.{is_lower_hex, is_hex_number, hex_number, number_of, u32_of, u16_of};
 
+use crate::fault::Fault;
 use crate::refusal::Refusal;
+use crate::rule::Rule;
 use crate::tree::FromTree;
-use serde_json::Value;
+use serde_json::{Number, Value};
 use std::alloc::Global;
 
 /// Whether this byte is one of `0` to `9` and `a` to `f`.
@@ -35,26 +39,36 @@ fn is_number_in_hex(text: &[u8]) -> bool
 
 /// The number that the text is, if it is `0x` and 1 to 16 digits.
 #[tactic(auto, unfolding(crate::specs::Numbers::hex_number))]
-fn number_in_hex(text: &str) -> Result<u64, Refusal>
+fn number_in_hex(alloc: Global, text: &str) -> Result<u64, Refusal>
     ensures { Gives result (hex_number text.now) }
 {
     if !is_number_in_hex(text.as_bytes()) {
-        return Err(Refusal::NoScript);
+        return Err(Refusal::NoScript(Fault::of(alloc, Rule::Number)));
     }
     match u64::from_str_radix(&text[2..], 16) {
         Ok(number) => Ok(number),
-        Err(_) => Err(Refusal::NoScript),
+        Err(_) => Err(Refusal::NoScript(Fault::of(alloc, Rule::Number))),
+    }
+}
+
+/// The number, if it is whole and from 0 to 2^64 - 1.
+fn whole_number(alloc: Global, number: &Number) -> Result<u64, Refusal>
+    ensures { Gives result (as_u64 (number_view number.now)) }
+{
+    match number.as_u64() {
+        Some(number) => Ok(number),
+        None => Err(Refusal::NoScript(Fault::of(alloc, Rule::Number))),
     }
 }
 
 impl FromTree for u64 {
     ghost reads = { number_of };
 
-    fn from_tree(_alloc: Global, value: &Value) -> Result<u64, Refusal> {
+    fn from_tree(alloc: Global, value: &Value) -> Result<u64, Refusal> {
         match value {
-            Value::Number(number) => number.as_u64().ok_or(Refusal::NoScript),
-            Value::String(text) => number_in_hex(text),
-            _ => Err(Refusal::NoScript),
+            Value::Number(number) => whole_number(alloc, number),
+            Value::String(text) => number_in_hex(alloc, text),
+            _ => Err(Refusal::NoScript(Fault::of(alloc, Rule::Number))),
         }
     }
 }
@@ -65,7 +79,7 @@ impl FromTree for u32 {
     fn from_tree(alloc: Global, value: &Value) -> Result<u32, Refusal> {
         let number = u64::from_tree(alloc, value)?;
         if number > 0xffff_ffff {
-            return Err(Refusal::NoScript);
+            return Err(Refusal::NoScript(Fault::of(alloc, Rule::Number32)));
         }
         Ok(number as u32)
     }
@@ -77,7 +91,7 @@ impl FromTree for u16 {
     fn from_tree(alloc: Global, value: &Value) -> Result<u16, Refusal> {
         let number = u64::from_tree(alloc, value)?;
         if number > 0xffff {
-            return Err(Refusal::NoScript);
+            return Err(Refusal::NoScript(Fault::of(alloc, Rule::Number16)));
         }
         Ok(number as u16)
     }

@@ -4,14 +4,15 @@ ghost use Rattle.vub_script.specs.Reading.{Gives};
 ghost use Rattle.vub_script.specs.Objects.{lone_member, object_form, object_of};
 
 use crate::draft::ObjectDraft;
+use crate::fault::Fault;
 use crate::refusal::Refusal;
-use crate::tree::FromTree;
+use crate::rule::Rule;
+use crate::tree::{FromTree, member_at};
 use serde_json::{Map, Value};
 use std::alloc::Global;
-use vub_base::Bytes;
 
 /// The only member, where there is one and no other.
-fn lone_member_of(map: &Map<String, Value>) -> Option<(&str, &Value)>
+pub fn lone_member_of(map: &Map<String, Value>) -> Option<(&str, &Value)>
     ensures { option_map (λ p. (p.0.now, view p.1.now)) result
         ≡ lone_member (members_view map.now.entries) }
 {
@@ -28,16 +29,19 @@ fn object_at(alloc: Global, key: &str, value: &Value) -> Result<ObjectDraft, Ref
     ensures { Gives result (object_form key.now (view value.now)) }
 {
     if key == "event" {
-        let flags = u32::from_tree(alloc, value)?;
+        let flags = member_at(alloc, value, "event")?;
         Ok(ObjectDraft::Event { flags })
     } else if key == "bytes" {
-        let length = u64::from_tree(alloc, value)?;
+        let length = member_at(alloc, value, "bytes")?;
         Ok(ObjectDraft::Zeros { length })
     } else if key == "hex" {
-        let bytes = Bytes::from_tree(alloc, value)?;
+        let bytes = member_at(alloc, value, "hex")?;
         Ok(ObjectDraft::Content(bytes))
+    } else if key == "log" {
+        let len = member_at(alloc, value, "log")?;
+        Ok(ObjectDraft::Log { len })
     } else {
-        Err(Refusal::NoScript)
+        Err(Refusal::NoScript(Fault::of(alloc, Rule::Object)))
     }
 }
 
@@ -47,11 +51,11 @@ impl FromTree for ObjectDraft {
     #[tactic(auto, unfolding(crate::specs::Objects::object_of))]
     fn from_tree(alloc: Global, value: &Value) -> Result<ObjectDraft, Refusal> {
         let Value::Object(map) = value else {
-            return Err(Refusal::NoScript);
+            return Err(Refusal::NoScript(Fault::of(alloc, Rule::Object)));
         };
         match lone_member_of(map) {
             Some((key, inner)) => object_at(alloc, key, inner),
-            None => Err(Refusal::NoScript),
+            None => Err(Refusal::NoScript(Fault::of(alloc, Rule::Object))),
         }
     }
 }

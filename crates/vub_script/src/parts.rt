@@ -3,8 +3,10 @@ ghost use Rattle.serde_json.specs.View.{view};
 ghost use Rattle.vub_script.specs.Reading.{Gives};
 ghost use Rattle.vub_script.specs.Parts.{part_form, part_of};
 
+use crate::fault::Fault;
 use crate::refusal::Refusal;
-use crate::tree::FromTree;
+use crate::rule::Rule;
+use crate::tree::{FromTree, element_at};
 use serde_json::Value;
 use std::alloc::Global;
 use vub_proto::Part;
@@ -14,10 +16,10 @@ fn part_at(alloc: Global, list: &[Value]) -> Result<Part, Refusal>
 {
     match list {
         [start, len, user, offset] => {
-            let start = u64::from_tree(alloc, start)?;
-            let len = u64::from_tree(alloc, len)?;
-            let user = u64::from_tree(alloc, user)?;
-            let offset = u64::from_tree(alloc, offset)?;
+            let start = element_at(alloc, start, 0)?;
+            let len = element_at(alloc, len, 1)?;
+            let user = element_at(alloc, user, 2)?;
+            let offset = element_at(alloc, offset, 3)?;
             Ok(Part {
                 start,
                 len,
@@ -25,7 +27,7 @@ fn part_at(alloc: Global, list: &[Value]) -> Result<Part, Refusal>
                 offset,
             })
         }
-        _ => Err(Refusal::NoScript),
+        _ => Err(Refusal::NoScript(Fault::of(alloc, Rule::Part))),
     }
 }
 
@@ -36,7 +38,7 @@ impl FromTree for Part {
     fn from_tree(alloc: Global, value: &Value) -> Result<Part, Refusal> {
         match value {
             Value::Array(list) => part_at(alloc, list),
-            _ => Err(Refusal::NoScript),
+            _ => Err(Refusal::NoScript(Fault::of(alloc, Rule::Part))),
         }
     }
 }

@@ -1,8 +1,12 @@
+ghost use Rattle.std.specs.Prelude.{◌≡◌, true, IfOk};
+ghost use Rattle.vub_script.specs.Directory.{is_served};
 ghost use Rattle.vub_script.specs.Reading.{Gives};
 ghost use Rattle.vub_script.specs.Script.{read_draft};
 
 use crate::draft::Draft;
+use crate::fault::Fault;
 use crate::refusal::Refusal;
+use crate::rule::Rule;
 use crate::whole::draft_from;
 use serde_json::Value;
 use std::alloc::Global;
@@ -13,7 +17,8 @@ use std::alloc::Global;
 /// # Errors
 /// [`Refusal::NoScript`] exactly where the text is no script, and want of memory.
 pub fn draft_of_bytes(alloc: Global, bytes: &[u8]) -> Result<Draft, Refusal>
-    ensures { Gives result (read_draft bytes.now) }
+    ensures draft { Gives result (read_draft bytes.now) }
+    ensures service { IfOk result (λ draft. is_served draft.service ≡ true) }
 {
     match Value::from_slice(alloc, bytes) {
         Ok(value) => draft_from(alloc, &value),
@@ -21,7 +26,11 @@ pub fn draft_of_bytes(alloc: Global, bytes: &[u8]) -> Result<Draft, Refusal>
             if error.is_memory() {
                 Err(Refusal::OutOfMemory)
             } else {
-                Err(Refusal::NoScript)
+                let rule = Rule::Json {
+                    line: error.line(),
+                    column: error.column(),
+                };
+                Err(Refusal::NoScript(Fault::of(alloc, rule)))
             }
         }
     }

@@ -1,18 +1,52 @@
-ghost use Rattle.std.specs.Prelude.{◌≡◌};
+ghost use Rattle.std.specs.Prelude.{◌≡◌, true};
+ghost use Rattle.vub_script.specs.Refused.{says_no_script};
 ghost use Rattle.vub_script.specs.declared.refusal.Refusal.TheVariants.{OutOfMemory};
 
-use std::alloc::{AllocError, AllocFailed};
+use crate::fault::{Fault, Step};
+use std::alloc::{AllocError, AllocFailed, Global};
 use thiserror::Error;
 
 /// Why a text or a tree gives no draft.
-#[derive(Clone, Copy, Debug, PartialEq, Eq, Error)]
+#[derive(Debug, Drop, Error)]
 pub enum Refusal {
     /// It is not in the grammar, or no JSON at all.
-    #[error("not a script")]
-    NoScript,
+    #[error("not a script: {0}")]
+    NoScript(Fault),
     /// Memory was refused.
     #[error("out of memory")]
     OutOfMemory,
+}
+
+impl Refusal {
+    /// The refusal of a whole to which this step leads, for this refusal of its part.
+    fn below(self, step: Step) -> Refusal
+        ensures { says_no_script result ≡ true → says_no_script self ≡ true }
+    {
+        match self {
+            Refusal::OutOfMemory => Refusal::OutOfMemory,
+            Refusal::NoScript(fault) => match fault.below(step) {
+                Ok(fault) => Refusal::NoScript(fault),
+                Err(_) => Refusal::OutOfMemory,
+            },
+        }
+    }
+
+    /// The refusal of a list, for this refusal of its element with this number.
+    pub(crate) fn in_element(self, number: usize) -> Refusal
+        ensures { says_no_script result ≡ true → says_no_script self ≡ true }
+    {
+        self.below(Step::Element(number))
+    }
+
+    /// The refusal of an object, for this refusal of what stands at the key.
+    pub(crate) fn at_key(self, alloc: Global, key: &str) -> Refusal
+        ensures { says_no_script result ≡ true → says_no_script self ≡ true }
+    {
+        match String::from_str(alloc, key) {
+            Ok(key) => self.below(Step::Member(key)),
+            Err(_) => Refusal::OutOfMemory,
+        }
+    }
 }
 
 impl From<AllocError> for Refusal {

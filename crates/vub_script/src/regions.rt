@@ -3,8 +3,10 @@ ghost use Rattle.serde_json.specs.View.{view};
 ghost use Rattle.vub_script.specs.Reading.{Gives};
 ghost use Rattle.vub_script.specs.Regions.{region_form, region_of};
 
+use crate::fault::Fault;
 use crate::refusal::Refusal;
-use crate::tree::FromTree;
+use crate::rule::Rule;
+use crate::tree::{FromTree, element_at};
 use serde_json::Value;
 use std::alloc::Global;
 use vub_model::GivenRegion;
@@ -14,11 +16,11 @@ fn region_at(alloc: Global, list: &[Value]) -> Result<GivenRegion, Refusal>
 {
     match list {
         [start, len, user, offset, object] => {
-            let start = u64::from_tree(alloc, start)?;
-            let len = u64::from_tree(alloc, len)?;
-            let user = u64::from_tree(alloc, user)?;
-            let offset = u64::from_tree(alloc, offset)?;
-            let object = u32::from_tree(alloc, object)?;
+            let start = element_at(alloc, start, 0)?;
+            let len = element_at(alloc, len, 1)?;
+            let user = element_at(alloc, user, 2)?;
+            let offset = element_at(alloc, offset, 3)?;
+            let object = element_at(alloc, object, 4)?;
             Ok(GivenRegion {
                 start,
                 len,
@@ -27,7 +29,7 @@ fn region_at(alloc: Global, list: &[Value]) -> Result<GivenRegion, Refusal>
                 object,
             })
         }
-        _ => Err(Refusal::NoScript),
+        _ => Err(Refusal::NoScript(Fault::of(alloc, Rule::Region))),
     }
 }
 
@@ -38,7 +40,7 @@ impl FromTree for GivenRegion {
     fn from_tree(alloc: Global, value: &Value) -> Result<GivenRegion, Refusal> {
         match value {
             Value::Array(list) => region_at(alloc, list),
-            _ => Err(Refusal::NoScript),
+            _ => Err(Refusal::NoScript(Fault::of(alloc, Rule::Region))),
         }
     }
 }

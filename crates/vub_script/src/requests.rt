@@ -10,8 +10,10 @@ use crate::arguments::{
     two_or_three_arguments,
 };
 use crate::calls::{Call, call_of};
+use crate::fault::Fault;
 use crate::refusal::Refusal;
-use crate::tree::FromTree;
+use crate::rule::Rule;
+use crate::tree::{FromTree, element_at};
 use serde_json::Value;
 use std::alloc::Global;
 use vub_base::{Bytes, Listed};
@@ -23,12 +25,12 @@ fn addresses_at(alloc: Global, list: &[Value]) -> Result<Request, Refusal>
 {
     match list {
         [queue, flags, desc, used, avail, log] => {
-            let queue = u32::from_tree(alloc, queue)?;
-            let flags = u32::from_tree(alloc, flags)?;
-            let desc = u64::from_tree(alloc, desc)?;
-            let used = u64::from_tree(alloc, used)?;
-            let avail = u64::from_tree(alloc, avail)?;
-            let log = u64::from_tree(alloc, log)?;
+            let queue = element_at(alloc, queue, 1)?;
+            let flags = element_at(alloc, flags, 2)?;
+            let desc = element_at(alloc, desc, 3)?;
+            let used = element_at(alloc, used, 4)?;
+            let avail = element_at(alloc, avail, 5)?;
+            let log = element_at(alloc, log, 6)?;
             Ok(Request::SetVringAddr {
                 queue,
                 flags,
@@ -38,7 +40,7 @@ fn addresses_at(alloc: Global, list: &[Value]) -> Result<Request, Refusal>
                 log,
             })
         }
-        _ => Err(Refusal::NoScript),
+        _ => Err(Refusal::NoScript(Fault::of(alloc, Rule::Arguments))),
     }
 }
 
@@ -48,27 +50,27 @@ fn request_for(alloc: Global, call: Call, list: &[Value]) -> Result<Request, Ref
 {
     match call {
         Call::SetOwner => {
-            no_argument(list)?;
+            no_argument(alloc, list)?;
             Ok(Request::SetOwner)
         }
         Call::ResetOwner => {
-            no_argument(list)?;
+            no_argument(alloc, list)?;
             Ok(Request::ResetOwner)
         }
         Call::ResetDevice => {
-            no_argument(list)?;
+            no_argument(alloc, list)?;
             Ok(Request::ResetDevice)
         }
         Call::GetQueueNum => {
-            no_argument(list)?;
+            no_argument(alloc, list)?;
             Ok(Request::GetQueueNum)
         }
         Call::GetMaxMemSlots => {
-            no_argument(list)?;
+            no_argument(alloc, list)?;
             Ok(Request::GetMaxMemSlots)
         }
         Call::GetFeatures => {
-            no_argument(list)?;
+            no_argument(alloc, list)?;
             Ok(Request::GetFeatures)
         }
         Call::SetFeatures => {
@@ -76,7 +78,7 @@ fn request_for(alloc: Global, call: Call, list: &[Value]) -> Result<Request, Ref
             Ok(Request::SetFeatures(bits))
         }
         Call::GetProtocolFeatures => {
-            no_argument(list)?;
+            no_argument(alloc, list)?;
             Ok(Request::GetProtocolFeatures)
         }
         Call::SetProtocolFeatures => {
@@ -179,11 +181,11 @@ fn request_for(alloc: Global, call: Call, list: &[Value]) -> Result<Request, Ref
             Ok(Request::GetSharedObject { uuid: uuid as u128 })
         }
         Call::GetShmemConfig => {
-            no_argument(list)?;
+            no_argument(alloc, list)?;
             Ok(Request::GetShmemConfig)
         }
         Call::CheckDeviceState => {
-            no_argument(list)?;
+            no_argument(alloc, list)?;
             Ok(Request::CheckDeviceState)
         }
         Call::SetDeviceStateFd => {
@@ -195,7 +197,7 @@ fn request_for(alloc: Global, call: Call, list: &[Value]) -> Result<Request, Ref
             })
         }
         Call::GetInflightFd => {
-            no_argument(list)?;
+            no_argument(alloc, list)?;
             Ok(Request::GetInflightFd)
         }
         Call::SetInflightFd => {
@@ -221,7 +223,7 @@ fn request_for(alloc: Global, call: Call, list: &[Value]) -> Result<Request, Ref
             })
         }
         Call::SendExit => {
-            no_argument(list)?;
+            no_argument(alloc, list)?;
             Ok(Request::SendExit)
         }
     }
@@ -233,9 +235,9 @@ fn request_at(alloc: Global, list: &[Value]) -> Result<Request, Refusal>
     match list {
         [Value::String(name), arguments @ ..] => match call_of(name.as_str()) {
             Some(call) => request_for(alloc, call, arguments),
-            None => Err(Refusal::NoScript),
+            None => Err(Refusal::NoScript(Fault::of(alloc, Rule::RequestName))),
         },
-        _ => Err(Refusal::NoScript),
+        _ => Err(Refusal::NoScript(Fault::of(alloc, Rule::Request))),
     }
 }
 
@@ -246,7 +248,7 @@ impl FromTree for Request {
     fn from_tree(alloc: Global, value: &Value) -> Result<Request, Refusal> {
         match value {
             Value::Array(list) => request_at(alloc, list),
-            _ => Err(Refusal::NoScript),
+            _ => Err(Refusal::NoScript(Fault::of(alloc, Rule::Request))),
         }
     }
 }

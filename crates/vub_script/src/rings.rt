@@ -3,9 +3,11 @@ ghost use Rattle.serde_json.specs.View.{view};
 ghost use Rattle.vub_script.specs.Reading.{Gives};
 ghost use Rattle.vub_script.specs.Rings.{info_form, info_of, ring_fields, ring_of};
 
-use crate::keys::is_in_ring_form;
+use crate::fault::Fault;
+use crate::keys::{is_in_ring_form, ring_fault};
 use crate::refusal::Refusal;
-use crate::tree::{FromTree, part_given};
+use crate::rule::Rule;
+use crate::tree::{FromTree, element_at, part_given};
 use serde_json::Value;
 use std::alloc::Global;
 use vub_model::{GivenRing, Info};
@@ -15,12 +17,12 @@ fn info_at(alloc: Global, list: &[Value]) -> Result<Info, Refusal>
 {
     match list {
         [desc, avail, used] => {
-            let desc = u64::from_tree(alloc, desc)?;
-            let avail = u64::from_tree(alloc, avail)?;
-            let used = u64::from_tree(alloc, used)?;
+            let desc = element_at(alloc, desc, 0)?;
+            let avail = element_at(alloc, avail, 1)?;
+            let used = element_at(alloc, used, 2)?;
             Ok(Info { desc, avail, used })
         }
-        _ => Err(Refusal::NoScript),
+        _ => Err(Refusal::NoScript(Fault::of(alloc, Rule::Info))),
     }
 }
 
@@ -31,7 +33,7 @@ impl FromTree for Info {
     fn from_tree(alloc: Global, value: &Value) -> Result<Info, Refusal> {
         match value {
             Value::Array(list) => info_at(alloc, list),
-            _ => Err(Refusal::NoScript),
+            _ => Err(Refusal::NoScript(Fault::of(alloc, Rule::Info))),
         }
     }
 }
@@ -40,15 +42,15 @@ impl FromTree for Info {
 fn ring_fields_from(alloc: Global, value: &Value) -> Result<GivenRing, Refusal>
     ensures { Gives result (ring_fields (view value.now)) }
 {
-    let queue = part_given(alloc, value.get("queue"))?;
-    let size = part_given(alloc, value.get("size"))?;
-    let info = part_given(alloc, value.get("info"))?;
-    let base = part_given(alloc, value.get("base"))?;
-    let next_used = part_given(alloc, value.get("next_used"))?;
-    let kick = part_given(alloc, value.get("kick"))?;
-    let call = part_given(alloc, value.get("call"))?;
-    let ready = part_given(alloc, value.get("ready"))?;
-    let enabled = part_given(alloc, value.get("enabled"))?;
+    let queue = part_given(alloc, value, "queue")?;
+    let size = part_given(alloc, value, "size")?;
+    let info = part_given(alloc, value, "info")?;
+    let base = part_given(alloc, value, "base")?;
+    let next_used = part_given(alloc, value, "next_used")?;
+    let kick = part_given(alloc, value, "kick")?;
+    let call = part_given(alloc, value, "call")?;
+    let ready = part_given(alloc, value, "ready")?;
+    let enabled = part_given(alloc, value, "enabled")?;
     Ok(GivenRing {
         queue,
         size,
@@ -70,7 +72,7 @@ impl FromTree for GivenRing {
         if is_in_ring_form(value) {
             ring_fields_from(alloc, value)
         } else {
-            Err(Refusal::NoScript)
+            Err(Refusal::NoScript(ring_fault(alloc, value)?))
         }
     }
 }

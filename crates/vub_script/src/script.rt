@@ -43,7 +43,7 @@ pub fn script_of(alloc: Global, value: &Value) -> Result<Option<Script>, OutOfMe
             let script = script_of_draft(alloc, draft)?;
             Ok(Some(script))
         }
-        Err(Refusal::NoScript) => Ok(None),
+        Err(Refusal::NoScript(_)) => Ok(None),
         Err(Refusal::OutOfMemory) => Err(OutOfMemory),
     }
 }

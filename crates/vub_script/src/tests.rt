@@ -18,7 +18,7 @@ fn verdict_on(alloc: Global, text: &[u8]) -> Result<Verdict, Fail> {
     match draft_of_bytes(alloc, text) {
         Ok(draft) if is_within_limits(&draft) => Ok(Verdict::Within),
         Ok(_) => Ok(Verdict::Past),
-        Err(Refusal::NoScript) => Ok(Verdict::None),
+        Err(Refusal::NoScript(_)) => Ok(Verdict::None),
         Err(Refusal::OutOfMemory) => Err(OutOfMemory.into()),
     }
 }
@@ -49,6 +49,8 @@ const SCRIPTS: &str = r#"{}
 {"requests":[["get_config",0,8,0],["set_config",4,"a5a5",0],["set_config",0,"",1],["set_backend_req_fd",0],["set_gpu_socket",0],["get_shared_object",18446744073709551615],["get_shmem_config"]]}
 {"requests":[["check_device_state"],["set_device_state_fd",0,1,2],["get_inflight_fd"],["set_inflight_fd",0]]}
 {"requests":[["register_listener",0,1,1,3],["unregister_listener",0,1,32,18446744073709551615],["send_exit"]]}
+{"bitmap":"none","objects":[{"log":34},{"log":0}]}
+{"bitmap":"pages","guest":[["harvest",4294967295,18446744073709551615]]}
 {"schedule":[7],"rounds":1398101}
 {"masks":[],"rounds":2097152}
 {"masks":[1,2,4],"rounds":838860}
@@ -63,6 +65,7 @@ const PAST_A_LIMIT: &str = r#"{"rounds":1398102}
 {"rounds":0,"rounds":18446744073709551615}
 {"objects":[{"bytes":67108864},{"hex":"00"}]}
 {"objects":[{"bytes":18446744073709551615}]}
+{"objects":[{"log":4294967295}]}
 {"objects":[{"bytes":9223372036854775808},{"bytes":9223372036854775808}]}"#;
 
 // Texts that are no scripts.
@@ -76,7 +79,7 @@ null
 {"rounds":01}
 {"rounds":1e999}
 {"Rounds":1}
-{"service":"echo"}
+{"service":"Echo"}
 {"rounds":null}
 {"rounds":1.0}
 {"rounds":1e0}
@@ -107,9 +110,12 @@ null
 {"guest":[["signal",0,0]]}
 {"guest":[["signal"]]}
 {"guest":[["other",0]]}
-{"bitmap":"pages"}
-{"objects":[{"log":4}]}
-{"guest":[["harvest",0,0]]}
+{"bitmap":"page"}
+{"bitmap":true}
+{"objects":[{"log":4294967296}]}
+{"guest":[["harvest",0]]}
+{"objects":[{"log":"four"}]}
+{"guest":[["harvest",0,0,0]]}
 {"queues":null}
 {"masks":1}
 {"masks":[null]}

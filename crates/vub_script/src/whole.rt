@@ -1,10 +1,12 @@
+ghost use Rattle.std.specs.Prelude.{◌≡◌, true, IfOk};
 ghost use Rattle.serde_json.specs.View.{view};
 ghost use Rattle.vub_script.specs.Reading.{Gives};
+ghost use Rattle.vub_script.specs.Directory.{is_served};
 ghost use Rattle.vub_script.specs.Draft.{device_of, fields_of, draft_of_tree};
 
-use crate::device_form::DeviceForm;
+use crate::device_form::{BitmapForm, DeviceForm};
 use crate::draft::Draft;
-use crate::keys::is_in_form;
+use crate::keys::{is_in_form, script_fault};
 use crate::refusal::Refusal;
 use crate::service_form::ServiceForm;
 use crate::tree::part_or;
@@ -29,14 +31,15 @@ fn device_from(alloc: Global, value: &Value) -> Result<DeviceForm, Refusal>
 {
     let mut mask: Listed<u64> = Listed::new(alloc);
     mask.push(MASK)?;
-    let queues = part_or(alloc, value.get("queues"), 1)?;
-    let max_size = part_or(alloc, value.get("max_size"), 256)?;
-    let masks = part_or(alloc, value.get("masks"), mask)?;
-    let features = part_or(alloc, value.get("features"), FEATURES)?;
-    let protocol = part_or(alloc, value.get("protocol"), PROTOCOL_FEATURES)?;
-    let config = part_or(alloc, value.get("config"), Bytes::new(alloc))?;
-    let exits = part_or(alloc, value.get("exits"), Listed::new(alloc))?;
-    let refuse = part_or(alloc, value.get("refuse"), Listed::new(alloc))?;
+    let queues = part_or(alloc, value, "queues", 1)?;
+    let max_size = part_or(alloc, value, "max_size", 256)?;
+    let masks = part_or(alloc, value, "masks", mask)?;
+    let features = part_or(alloc, value, "features", FEATURES)?;
+    let protocol = part_or(alloc, value, "protocol", PROTOCOL_FEATURES)?;
+    let config = part_or(alloc, value, "config", Bytes::new(alloc))?;
+    let bitmap = part_or(alloc, value, "bitmap", BitmapForm::None)?;
+    let exits = part_or(alloc, value, "exits", Listed::new(alloc))?;
+    let refuse = part_or(alloc, value, "refuse", Listed::new(alloc))?;
     Ok(DeviceForm {
         queues,
         max_size,
@@ -44,7 +47,7 @@ fn device_from(alloc: Global, value: &Value) -> Result<DeviceForm, Refusal>
         features,
         protocol,
         config,
-        pages: false,
+        bitmap,
         exits,
         refuse,
     })
@@ -54,14 +57,15 @@ fn device_from(alloc: Global, value: &Value) -> Result<DeviceForm, Refusal>
 fn fields_from(alloc: Global, value: &Value) -> Result<Draft, Refusal>
     ensures { Gives result (fields_of (view value.now)) }
 {
-    let objects = part_or(alloc, value.get("objects"), Listed::new(alloc))?;
-    let regions = part_or(alloc, value.get("regions"), Listed::new(alloc))?;
-    let rings = part_or(alloc, value.get("rings"), Listed::new(alloc))?;
-    let requests = part_or(alloc, value.get("requests"), Listed::new(alloc))?;
-    let guest = part_or(alloc, value.get("guest"), Listed::new(alloc))?;
+    let objects = part_or(alloc, value, "objects", Listed::new(alloc))?;
+    let regions = part_or(alloc, value, "regions", Listed::new(alloc))?;
+    let rings = part_or(alloc, value, "rings", Listed::new(alloc))?;
+    let requests = part_or(alloc, value, "requests", Listed::new(alloc))?;
+    let guest = part_or(alloc, value, "guest", Listed::new(alloc))?;
     let device = device_from(alloc, value)?;
-    let listed = part_or(alloc, value.get("schedule"), Listed::new(alloc))?;
-    let rounds = part_or(alloc, value.get("rounds"), 0)?;
+    let service = part_or(alloc, value, "service", ServiceForm::Echo)?;
+    let listed = part_or(alloc, value, "schedule", Listed::new(alloc))?;
+    let rounds = part_or(alloc, value, "rounds", 0)?;
     Ok(Draft {
         objects,
         regions,
@@ -69,7 +73,7 @@ fn fields_from(alloc: Global, value: &Value) -> Result<Draft, Refusal>
         requests,
         guest,
         device,
-        service: ServiceForm::Echo,
+        service,
         listed,
         rounds,
     })
@@ -81,11 +85,12 @@ fn fields_from(alloc: Global, value: &Value) -> Result<Draft, Refusal>
 /// [`Refusal::NoScript`] exactly where the tree is not in the grammar, and want of memory.
 #[tactic(auto, unfolding(crate::specs::Draft::draft_of_tree))]
 pub fn draft_from(alloc: Global, value: &Value) -> Result<Draft, Refusal>
-    ensures { Gives result (draft_of_tree (view value.now)) }
+    ensures draft { Gives result (draft_of_tree (view value.now)) }
+    ensures service { IfOk result (λ draft. is_served draft.service ≡ true) }
 {
     if is_in_form(value) {
         fields_from(alloc, value)
     } else {
-        Err(Refusal::NoScript)
+        Err(Refusal::NoScript(script_fault(alloc, value)?))
     }
 }

@@ -18,6 +18,7 @@ fn object_of_draft(alloc: Global, object: ObjectDraft) -> Result<Object, OutOfMe
             Ok(Object::Content(Bytes::from_vec(zeros)))
         }
         ObjectDraft::Content(bytes) => Ok(Object::Content(bytes)),
+        ObjectDraft::Log { len } => Ok(Object::Log { len }),
     }
 }
 

@@ -1,1 +1,4 @@
 pub mod OneRunOf
+pub mod Decimals
+pub mod Generated
+pub mod GeneratorValid

@@ -1,6 +1,9 @@
+pub mod Asked
+pub mod Commands
 pub mod Device
 pub mod Endings
+pub mod Generator
 pub mod Inputs
-pub mod OnInput
 pub mod ScriptRun
+pub mod Service
 pub mod Statuses

@@ -30,6 +30,6 @@ complaint_of TooLong = Some (codes "too long")
 abbrev pub status_of : NoRun → Status
 status_of why.Read = Read
 status_of why.TooLong = TooLong
-status_of why.NotAScript = NotAScript
-status_of why.SetUp = SetUp
+status_of (why.NotAScript fault) = NotAScript
+status_of (why.Unfit unfit) = SetUp
 status_of why.Memory = Memory

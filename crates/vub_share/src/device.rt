@@ -5,9 +5,9 @@ ghost use Rattle.vub_proto.specs.declared.device_said.DeviceSaid.{DeviceSaid};
 ghost use Rattle.vub_share.specs.Device.{new_device, unless_listed, numbered, lies_inside};
 
 use std::alloc::Global;
-use std::marker::Model;
+use std::marker::{Model, PhantomData};
 use vub_base::{Bytes, OutOfMemory};
-use vub_mem::Region;
+use vub_mem::{BitmapReplace, Region};
 use vub_proto::{Backend, Refused, VhostUserBackendMut};
 use vub_script::DeviceForm;
 
@@ -21,16 +21,18 @@ const INVALID: i32 = 22;
 const UNSUPPORTED: i32 = 95;
 
 /// The device of a script: its constants and the bytes of its config space are what the script says of them. Its calls
-/// that may refuse are numbered from 0 on, and those that the script names are refused with 5.
+/// that may refuse are numbered from 0 on, and those that the script names are refused with 5. `B` says how it tracks the
+/// pages that it changes.
 #[derive(Debug, Drop)]
-pub struct ScriptDevice {
+pub struct ScriptDevice<B> {
     form: DeviceForm,
     /// How many calls that may refuse there were.
     calls: u64,
     refusals: u64,
+    bitmap: PhantomData<B>,
 }
 
-impl Model for ScriptDevice {
+impl<B> Model for ScriptDevice<B> {
     ghost use Rattle.vub_share.specs.Device.{ScriptState};
 
     ghost Value = { ScriptState };
@@ -38,15 +40,16 @@ impl Model for ScriptDevice {
     ghost view = { λ d. record { form = d.form; calls = d.calls; refusals = d.refusals } };
 }
 
-impl ScriptDevice {
+impl<B> ScriptDevice<B> {
     /// The device of which the script says this, before its first call.
-    pub fn new(form: DeviceForm) -> ScriptDevice
+    pub fn new(form: DeviceForm) -> ScriptDevice<B>
         ensures { result ≡ new_device form }
     {
         ScriptDevice {
             form,
             calls: 0,
             refusals: 0,
+            bitmap: PhantomData,
         }
     }
 
@@ -113,7 +116,9 @@ impl ScriptDevice {
     }
 }
 
-impl VhostUserBackendMut for ScriptDevice {
+impl<B: BitmapReplace> VhostUserBackendMut for ScriptDevice<B> {
+    type Bitmap = B;
+
     ghost use Rattle.vub_share.specs.Device.{exit_at, script_said, script_moved};
 
     ghost queue_count = { λ d. d.form.queues };

@@ -1,37 +1,80 @@
-ghost use Rattle.std.specs.Prelude.{◌≡◌, ◌≢◌, ◌⊎◌, ◌≤◌, ℕ, List, length, true, false, IfOk, IfErr, IfSome, IsSome, Err};
-ghost use Rattle.vub_base.specs.Causes.{Rose};
-ghost use Rattle.vub_script.specs.Script.{is_within, script_from};
-ghost use Rattle.vub_share.specs.Inputs.{CallsFor, SaysEnded};
-ghost use Rattle.vub_share.specs.ScriptRun.{IsRunOf, fault_in, no_run_for};
+//! From a script to its run.
+ghost use Rattle.std.specs.Prelude.{◌≡◌, true, IfOk, IfErr};
+ghost use Rattle.vub_script.specs.Directory.{is_served};
+ghost use Rattle.vub_share.specs.ScriptRun.{IsRunOf, CausedBy, script_with, tracks, no_run_for};
 
 use crate::device::ScriptDevice;
-use crate::no_run::NoRun;
+use crate::no_run::{NoRun, Unfit};
+use crate::service::ScriptService;
 use std::alloc::Global;
 use vub_core::drive;
-use vub_model::{DriveFault, Run};
-use vub_proto::Echo;
-use vub_script::{
-    Draft, Refusal, Script, ServiceForm, draft_of_bytes, is_within_limits, script_of_draft,
-};
-use vub_stream::{Input, Source, SourceError, read_input};
+use vub_mem::{BitmapMmapRegion, BitmapReplace};
+use vub_model::{DriveFault, Run, Setup};
+use vub_script::{BitmapForm, DeviceForm, Script, ServiceForm};
 
 /// Why a script has no run, where `drive` gave none.
 fn no_run_for(fault: DriveFault) -> NoRun
     ensures { result ≡ no_run_for fault }
 {
     match fault {
-        DriveFault::Setup(_) => NoRun::SetUp,
+        DriveFault::Setup(fault) => NoRun::Unfit(Unfit::Setup(fault)),
         DriveFault::OutOfMemory { .. } => NoRun::Memory,
     }
 }
 
-/// Plays a script that was written out.
+/// Plays the script of these parts, whose device tracks the pages that it changes by `B`.
+fn play_on<B: BitmapReplace>(
+    alloc: Global,
+    setup: &Setup,
+    form: DeviceForm,
+    service: ServiceForm,
+    schedule: &[u32],
+) -> Result<Run, NoRun>
+    requires served { is_served service ≡ true }
+    requires bitmap { B.TRACKS ≡ tracks form.bitmap }
+    ensures run { IfOk result (IsRunOf (script_with setup.now form service schedule.now)) }
+    ensures refused { IfErr result (CausedBy (script_with setup.now form service schedule.now)) }
+{
+    let mut device: ScriptDevice<B> = ScriptDevice::new(form);
+    let mut service = match ScriptService::new(alloc, service) {
+        Ok(service) => service,
+        Err(_) => return Err(NoRun::Memory),
+    };
+    match drive(alloc, setup, &mut device, &mut service, schedule) {
+        Ok(run) => Ok(run),
+        Err(fault) => Err(no_run_for(fault)),
+    }
+}
+
+/// Plays the script of this set-up, device, service and schedule.
 ///
 /// # Errors
-/// `SetUp` where the set-up can't be run; want of memory.
-fn run_of_script(alloc: Global, script: Script) -> Result<Run, NoRun>
-    ensures ok { IfOk result (IsRunOf script) }
-    ensures err { IfErr result (λ why. ((why ≡ NoRun.SetUp) × IsSome (fault_in script)) ⊎ (why ≡ NoRun.Memory)) }
+/// [`NoRun::Unfit`] with the first test that the set-up fails; want of memory.
+pub fn play_script(
+    alloc: Global,
+    setup: &Setup,
+    device: DeviceForm,
+    service: ServiceForm,
+    schedule: &[u32],
+) -> Result<Run, NoRun>
+    requires { is_served service ≡ true }
+    ensures run { IfOk result (IsRunOf (script_with setup.now device service schedule.now)) }
+    ensures refused { IfErr result (CausedBy (script_with setup.now device service schedule.now)) }
+{
+    match device.bitmap {
+        BitmapForm::None => play_on::<()>(alloc, setup, device, service, schedule),
+        BitmapForm::Pages => play_on::<BitmapMmapRegion>(alloc, setup, device, service, schedule),
+    }
+}
+
+/// Plays a script.
+///
+/// # Errors
+/// [`NoRun::Unfit`] with the first test that its set-up fails; want of memory.
+pub fn run_of(alloc: Global, script: Script) -> Result<Run, NoRun>
+    requires { is_served script.service ≡ true }
+    ensures run { IfOk result (IsRunOf script) }
+    ensures refused { IfErr result (CausedBy script) }
 {
     let Script {
         setup,
@@ -39,65 +82,8 @@ fn run_of_script(alloc: Global, script: Script) -> Result<Run, NoRun>
         service,
         schedule,
     } = script;
-    let mut device = ScriptDevice::new(device);
-    let driven = match service {
-        ServiceForm::Echo => drive(alloc, &setup, &mut device, &mut Echo, schedule.as_slice()),
-    };
-    match driven {
+    match play_script(alloc, &setup, device, service, schedule.as_slice()) {
         Ok(run) => Ok(run),
-        Err(fault) => Err(no_run_for(fault)),
-    }
-}
-
-/// Plays a script as it was read, if it is within the limits: only then it is written out.
-///
-/// # Errors
-/// `SetUp` past a limit, or where the set-up can't be run; want of memory.
-fn run_of_draft(alloc: Global, draft: Draft) -> Result<Run, NoRun>
-    ensures ok { IfOk result (λ run. (is_within draft ≡ true) × IsRunOf (script_from draft) run) }
-    ensures err { IfErr result (λ why. ((why ≡ NoRun.SetUp)
-        × ((is_within draft ≡ false) ⊎ ((is_within draft ≡ true) × IsSome (fault_in (script_from draft)))))
-        ⊎ (why ≡ NoRun.Memory)) }
-{
-    if !is_within_limits(&draft) {
-        return Err(NoRun::SetUp);
-    }
-    match script_of_draft(alloc, draft) {
-        Ok(script) => run_of_script(alloc, script),
-        Err(_) => Err(NoRun::Memory),
-    }
-}
-
-/// Plays the script that the bytes are.
-///
-/// # Errors
-/// `NotAScript`, `SetUp`, and want of memory.
-fn run_of_bytes(alloc: Global, bytes: &[u8]) -> Result<Run, NoRun>
-    requires { length bytes.now ≤ 16777216 }
-    ensures calls { CallsFor bytes.now result }
-    ensures kind { IfErr result (λ why. (why ≢ NoRun.Read) × (why ≢ NoRun.TooLong)) }
-{
-    match draft_of_bytes(alloc, bytes) {
-        Ok(draft) => run_of_draft(alloc, draft),
-        Err(Refusal::NoScript) => Err(NoRun::NotAScript),
-        Err(Refusal::OutOfMemory) => Err(NoRun::Memory),
-    }
-}
-
-/// Reads a script, and plays it.
-///
-/// # Errors
-/// `Read` only where the source's count of faults rose; `TooLong`, `NotAScript` and `SetUp` by the input; want of memory.
-pub fn run_of_source<S: Source>(alloc: Global, source: &mut S) -> Result<Run, NoRun>
-    ensures calls { IfSome (S.left source.old) (λ input. CallsFor input result) }
-    ensures read { result ≡ Err NoRun.Read → Rose (S.fault_count source.old) (S.fault_count source.new) }
-    ensures ended { SaysEnded result → S.ended source.new ≡ true }
-    ensures later { S.fault_count source.old ≤ S.fault_count source.new }
-{
-    match read_input(alloc, source) {
-        Ok(Input::Whole(bytes)) => run_of_bytes(alloc, bytes.as_slice()),
-        Ok(Input::TooLong) => Err(NoRun::TooLong),
-        Err(SourceError::Failed) => Err(NoRun::Read),
-        Err(SourceError::OutOfMemory) => Err(NoRun::Memory),
+        Err(why) => Err(why),
     }
 }

@@ -1,5 +1,6 @@
 -- The lines of a text. Numbers are decimal, and each line ends with a newline byte.
 use Rattle.std.specs.Prelude.{ℕ, ◌+◌, Bool, true, false, List, [], ◌∷◌, ◌++◌, length, codes, decimal, count_by}
+use Rattle.std.specs.Int.{w32, to_le_bytes}
 use Rattle.vub_proto.specs.declared.answer.Answer.{Answer}
 use Rattle.vub_proto.specs.declared.used.Used.{Used}
 use Rattle.vub_model.specs.declared.label.Label.{Label}
@@ -10,6 +11,8 @@ use Rattle.vub_model.specs.declared.records.Take as records
 use Rattle.vub_model.specs.declared.records.Stop.{Stop}
 use Rattle.vub_model.specs.declared.records.Count.{Count}
 use Rattle.vub_model.specs.declared.records.Span.{Span}
+use Rattle.vub_model.specs.declared.records.LogBytes.{LogBytes}
+use Rattle.vub_model.specs.declared.records.Harvested.{Harvested}
 use Rattle.vub_text.specs.Words.{hex_text, yes_no, cause_text}
 use Rattle.vub_text.specs.Answers.{answer_text}
 use Rattle.vub_text.specs.Calls.{device_name, outcome_text}
@@ -84,3 +87,13 @@ count_line c = codes "count " ++ decimal c.object ++ codes " " ++ decimal c.coun
 unfoldable pub write_line : Span → List ℕ
 write_line s =
     codes "write " ++ decimal s.object ++ codes " " ++ decimal s.offset ++ codes " " ++ hex_text s.bytes ++ codes "\n"
+
+-- a log of dirty pages, byte by byte: page p is bit p modulo 8 of byte p / 8
+unfoldable pub log_line : LogBytes → List ℕ
+log_line l = codes "log " ++ decimal l.object ++ codes " " ++ hex_text l.bytes ++ codes "\n"
+
+-- a word of a log that was harvested: the four bytes that it had, in order
+unfoldable pub harvest_line : Harvested → List ℕ
+harvest_line h =
+    codes "harvest " ++ decimal h.object ++ codes " " ++ decimal h.word ++ codes " " ++
+    hex_text (to_le_bytes w32 h.bits) ++ codes "\n"

@@ -136,8 +136,12 @@ fn push_answer(alloc: Global, text: &mut String, answer: &Answer) -> Result<(), 
     Ok(())
 }
 
+/// Appends the line of an answer to the request with this number.
+///
+/// # Errors
+/// Want of memory. The text may then end within the line.
 #[tactic(auto, using(std::proofs::Common::append_assoc), unfolding(crate::specs::Lines::answer_line))]
-fn push_answer_line(
+pub fn push_answer_line(
     alloc: Global,
     text: &mut String,
     number: usize,

@@ -7,11 +7,18 @@ mod causes;
 mod entries;
 mod hexadecimal;
 mod lines;
+mod logs;
 mod places;
 mod printed;
+mod summary;
 mod turns;
 
+pub use answers::push_answer_line;
+pub use hexadecimal::hex_of;
+pub use lines::{Line, push_lines};
 pub use printed::print_run;
+pub use summary::print_summary;
+pub use turns::word_of;
 
 #[cfg(test)]
 mod tests;

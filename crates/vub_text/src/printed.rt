@@ -25,5 +25,7 @@ pub fn print_run(alloc: Global, run: &Run) -> Result<Bytes, OutOfMemory>
     push_lines(alloc, &mut text, run.stops.as_slice())?;
     push_lines(alloc, &mut text, run.counts.as_slice())?;
     push_lines(alloc, &mut text, run.written.as_slice())?;
+    push_lines(alloc, &mut text, run.logs.as_slice())?;
+    push_lines(alloc, &mut text, run.harvests.as_slice())?;
     Ok(Bytes::from_vec(text.into_bytes()))
 }

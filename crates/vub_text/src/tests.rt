@@ -17,6 +17,8 @@ fn empty_run(alloc: Global) -> Run {
         stops: Listed::new(alloc),
         counts: Listed::new(alloc),
         written: Listed::new(alloc),
+        logs: Listed::new(alloc),
+        harvests: Listed::new(alloc),
         rest: true,
     }
 }

@@ -25,7 +25,8 @@ fn count_played(labels: &[Label]) -> usize
     count
 }
 
-fn word_of(holds: bool) -> &'static str
+/// `yes` or `no`.
+pub fn word_of(holds: bool) -> &'static str
     ensures { result.now ≡ yes_no holds }
 {
     if holds { "yes" } else { "no" }

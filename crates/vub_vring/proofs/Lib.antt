@@ -1,4 +1,7 @@
+pub mod Harvesting
 pub mod Holding
+pub mod Logging
+pub mod Marking
 pub mod Places
 pub mod Room
 pub mod Saying

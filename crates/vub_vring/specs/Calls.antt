@@ -1,9 +1,12 @@
 -- What each call of `Parts` says and leaves, as a relation of what is held before and after. Each is one row of the
 -- machine's steps, or a small step of one of its parts.
-use Rattle.std.specs.Prelude.{◌≡◌, ◌⊎◌, ℕ, Bool, true, false, List, Option, Some, None, Result, Ok, Err}
+use Rattle.std.specs.Prelude.{◌≡◌, ◌⊎◌, ℕ, Bool, true, false, List, map, Option, Some, None, Result, Ok, Err}
 use Rattle.vub_base.specs.Causes.{Rose}
 use Rattle.vub_base.specs.Told.{Told}
-use Rattle.vub_mem.specs.Memory.{Guest}
+use Rattle.vub_log.specs.Plain.{Plain}
+use Rattle.vub_mem.specs.Memory.{Guest, Memory}
+use Rattle.vub_mem.specs.Track.{log_fault, with_log}
+use Rattle.vub_mem.specs.declared.errors.LogError.TheVariants as log_error
 use Rattle.vub_mem.specs.declared.errors.MemError.TheVariants as mem_error
 use Rattle.vub_event.specs.HostTable.{HostTable}
 use Rattle.vub_event.specs.HostCalls.{CreateEventCall, CreateListCall, SignalCall, ConsumeCall, AddCall, DeleteCall}
@@ -45,6 +48,8 @@ use Rattle.vub_vring.specs.declared.ops.HostOp.{HostOp}
 use Rattle.vub_vring.specs.declared.ops.HostOp.TheVariants as host
 use Rattle.vub_vring.specs.declared.ops.HostSaid.{HostSaid}
 use Rattle.vub_vring.specs.declared.ops.HostSaid.TheVariants as said
+use Rattle.vub_vring.specs.declared.ops.LogSaid.{LogSaid}
+use Rattle.vub_vring.specs.declared.ops.LogSaid.TheVariants as log_said
 use Rattle.vub_vring.specs.declared.ops.TableSaid.{TableSaid}
 use Rattle.vub_vring.specs.declared.ops.TableSaid.TheVariants as change
 use Rattle.vub_ring.specs.declared.ops.PartsError.{PartsError}
@@ -173,6 +178,10 @@ IsSaid s = Unit {0}
 abbrev pub HostCall : {V : Type 0} → HostOp → HostSaid → Shared V → Shared V → Type 0
 HostCall o s old new = HostTableCall o s old.table new.table × (new ≡ record old { table = new.table })
 
+-- guest memory and its logs, of what is held
+abbrev pub memory_of : {V : Type 0} → Shared V → Memory Plain
+memory_of h = record { guest = h.guest; logs = h.logs }
+
 -- `table`: the table of guest memory is changed, and its regions are said; or memory refuses the change
 abbrev pub ChangesTable : TableOp → TableSaid → Guest → Guest → Type 0
 ChangesTable o (change.Regions regions) old new =
@@ -182,6 +191,30 @@ ChangesTable o (change.Memory e) old new = (table_refusal old o ≡ Some e) × (
 
 abbrev pub TableCall : {V : Type 0} → TableOp → TableSaid → Shared V → Shared V → Type 0
 TableCall o s old new = ChangesTable o s old.guest new.guest × (new ≡ record old { guest = new.guest })
+
+-- the regions with this part of a log
+abbrev pub tracked_guest : Guest → ℕ → ℕ → Guest
+tracked_guest g object offset = record g { regions = map (λ r. with_log object offset r) g.regions }
+
+-- `set_log`: each region gets this part of the log, or the first test that fails is said, and nothing changes
+abbrev pub SetsLog : {L : Type 0} → (L → ℕ) → ℕ → ℕ → ℕ → Bool → LogSaid → Memory L → Memory L → Type 0
+SetsLog len object offset size tracks log_said.Done old new =
+    (log_fault len old.logs old.guest.regions object offset size tracks ≡ None)
+    × (new ≡ record old { guest = tracked_guest old.guest object offset })
+SetsLog len object offset size tracks (log_said.Log e) old new =
+    (log_fault len old.logs old.guest.regions object offset size tracks ≡ Some e) × (new ≡ old)
+
+-- the same of what is held
+abbrev pub LogCall : {V : Type 0} → ℕ → ℕ → ℕ → Bool → LogSaid → Shared V → Shared V → Type 0
+LogCall object offset size tracks s old new =
+    SetsLog (λ log. log.len) object offset size tracks s (memory_of old) (memory_of new)
+    × (new ≡ record old { guest = new.guest })
+
+-- neither want of memory nor a spent generation is said as a refusal of a log
+abbrev pub IsLogSaid : LogSaid → Type 0
+IsLogSaid (log_said.Log log_error.OutOfMemory) = ⊥
+IsLogSaid (log_said.Log log_error.GenerationsSpent) = ⊥
+IsLogSaid s = Unit {0}
 
 -- want of memory is not said as a refusal of guest memory
 abbrev pub IsTableSaid : TableSaid → Type 0

@@ -3,9 +3,9 @@ ghost use Rattle.std.specs.Prelude.{◌≡◌, ◌≤◌, ◌⊎◌, [], None, S
 ghost use Rattle.std.specs.Vec.{vec_capacity};
 ghost use Rattle.vub_model.specs.Control.{table_refusal};
 ghost use Rattle.vub_model.specs.Plans.{regions_after};
-ghost use Rattle.vub_vring.specs.Calls.{ChangesTable, IsTableSaid};
+ghost use Rattle.vub_vring.specs.Calls.{ChangesTable, IsTableSaid, SetsLog, IsLogSaid};
 
-use crate::ops::TableSaid;
+use crate::ops::{LogSaid, TableSaid};
 use std::alloc::Global;
 use vub_base::Listed;
 use vub_mem::{DirtyLog, GuestMemory, MemError, Region};
@@ -75,5 +75,24 @@ pub fn play_memory<L: DirtyLog>(
         Ok(()) => Ok(TableSaid::Regions(filled(list, memory.regions()))),
         Err(MemError::OutOfMemory) => Err(PartsError::OutOfMemory),
         Err(error) => Ok(TableSaid::Memory(error)),
+    }
+}
+
+/// Gives each region of guest memory this part of a log of dirty pages, or says why not (`GuestMemory::set_log`). Takes
+/// no memory.
+#[tactic(auto, using(crate::proofs::Logging::log_refused))]
+pub fn play_log<L: DirtyLog>(
+    memory: &mut GuestMemory<L>,
+    object: u32,
+    offset: u64,
+    size: u64,
+    tracks: bool,
+) -> LogSaid
+    ensures row { SetsLog L.byte_len object offset size tracks result memory.old memory.new }
+    ensures said { IsLogSaid result }
+{
+    match memory.set_log(object, offset, size, tracks) {
+        Ok(()) => LogSaid::Done,
+        Err(error) => LogSaid::Log(error),
     }
 }

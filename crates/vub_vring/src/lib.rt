@@ -12,10 +12,10 @@ mod parts;
 mod store;
 
 pub use asking::play_device;
-pub use changing::play_memory;
+pub use changing::{play_log, play_memory};
 pub use hosting::play_host;
 pub use opening::open_worker;
-pub use ops::{HostOp, HostSaid, TableSaid};
+pub use ops::{HostOp, HostSaid, LogSaid, TableSaid};
 pub use owned::OwnedParts;
 pub use parts::Parts;
 pub use store::{Store, closed_said, closed_table_said, copy_constants, missing_said};

@@ -1,7 +1,7 @@
 //! What the call of the host is asked, and what the calls of host and memory say.
 use vub_base::Listed;
 use vub_event::{EventSet, HostError, Ready};
-use vub_mem::{MemError, Region};
+use vub_mem::{LogError, MemError, Region};
 
 /// A call of the host, with the arguments of the call of its name.
 #[derive(Clone, Copy, Debug, PartialEq, Eq)]
@@ -43,4 +43,13 @@ pub enum TableSaid {
     Regions(Listed<Region>),
     /// Guest memory refused the change, and nothing changed. Want of memory does not stand here.
     Memory(MemError),
+}
+
+/// What `set_log` says.
+#[derive(Clone, Copy, Debug, PartialEq, Eq)]
+pub enum LogSaid {
+    /// Each region has the log.
+    Done,
+    /// The log was refused, and nothing changed. Neither want of memory nor a spent generation stands here.
+    Log(LogError),
 }

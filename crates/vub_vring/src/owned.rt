@@ -2,28 +2,27 @@ ghost use Rattle.std.specs.Prelude.{◌≡◌, [], ◌∷◌, Some};
 ghost use Rattle.vub_vring.specs.Store.{shared_of};
 
 use crate::asking::play_device;
-use crate::changing::play_memory;
-use crate::ops::{HostOp, HostSaid, TableSaid};
+use crate::changing::{play_log, play_memory};
+use crate::ops::{HostOp, HostSaid, LogSaid, TableSaid};
 use crate::parts::Parts;
 use crate::store::{Store, copy_constants, host_at, kick_at, pend_at, put_at, ring_at, table_at};
 use std::alloc::Global;
 use vub_base::{Bytes, OutOfMemory};
 use vub_event::Host;
-use vub_mem::DirtyLog;
 use vub_model::{Constants, Entry, RingOp, RingSaid, TableOp};
 use vub_proto::{DeviceOp, DeviceSaid, Service, VhostUserBackendMut};
 use vub_ring::{KickSaid, PartsError, PendOp, PendSaid, PutSaid, TableRing, TableRingSaid};
 
 /// All parts, lent: they tell what they hold. They own no memory, so that what is lent comes back known.
 #[derive(Drop)]
-pub struct OwnedParts<'a, L: DirtyLog, D, V> {
-    pub store: &'a mut Store<L>,
+pub struct OwnedParts<'a, D, V> {
+    pub store: &'a mut Store,
     pub device: &'a mut D,
     pub service: &'a mut V,
     pub constants: &'a Constants,
 }
 
-impl<'a, L: DirtyLog, D: VhostUserBackendMut, V: Service> Parts for OwnedParts<'a, L, D, V> {
+impl<'a, D: VhostUserBackendMut, V: Service> Parts for OwnedParts<'a, D, V> {
     type Service = V;
 
     type Device = D;
@@ -94,6 +93,17 @@ impl<'a, L: DirtyLog, D: VhostUserBackendMut, V: Service> Parts for OwnedParts<'
     #[tactic(auto, using(crate::proofs::Holding::table_row, crate::proofs::Holding::quiet_counts))]
     fn table(&mut self, alloc: Global, op: TableOp) -> Result<TableSaid, PartsError> {
         play_memory(alloc, &mut self.store.memory, op)
+    }
+
+    #[tactic(auto, using(crate::proofs::Holding::log_row, crate::proofs::Holding::quiet_counts))]
+    fn set_log(
+        &mut self,
+        object: u32,
+        offset: u64,
+        size: u64,
+        tracks: bool,
+    ) -> Result<LogSaid, PartsError> {
+        Ok(play_log(&mut self.store.memory, object, offset, size, tracks))
     }
 
     #[tactic(auto, using(crate::proofs::Holding::pend_row, crate::proofs::Holding::quiet_counts))]

@@ -1,12 +1,12 @@
-ghost use Rattle.std.specs.Prelude.{◌≡◌, ◌≤◌, ℕ, length, sum_by, IfOk, IsErrOf, IsTrue};
+ghost use Rattle.std.specs.Prelude.{◌≡◌, ◌≤◌, ℕ, length, sum_by, IfOk, OnErr, IsErrOf, IsTrue};
 ghost use Rattle.std.specs.Option.{ForSome};
 ghost use Rattle.vub_model.specs.Control.{IsOutcome};
 ghost use Rattle.vub_model.specs.Service.{meaning};
 ghost use Rattle.vub_ring.specs.Play.{HasRoom, inserts};
-ghost use Rattle.vub_vring.specs.Calls.{RingCall, TableRingCall, KickCall, PutCall, PutTried, PendCall, ServiceCall, HostCall, IsSaid, takes_memory, TableCall, IsTableSaid, DeviceCall, telling, IsCounted, gives_content};
+ghost use Rattle.vub_vring.specs.Calls.{RingCall, TableRingCall, KickCall, PutCall, PutTried, PendCall, ServiceCall, HostCall, IsSaid, takes_memory, TableCall, IsTableSaid, LogCall, IsLogSaid, DeviceCall, telling, IsCounted, gives_content};
 ghost use Rattle.vub_vring.specs.PartsState.{PartsState, HasFailed, IsCall, IsDeviceCall, WaitsWhereTold, Keeps, KeepsShared, IsUntouched};
 
-use crate::ops::{HostOp, HostSaid, TableSaid};
+use crate::ops::{HostOp, HostSaid, LogSaid, TableSaid};
 use std::alloc::Global;
 use vub_base::{Bytes, OutOfMemory};
 use vub_model::{Constants, Entry, RingOp, RingSaid, TableOp};
@@ -105,6 +105,20 @@ pub trait Parts {
         ensures row { IsCall (state self.old) (state self.new) result (TableCall op) }
         ensures said { IfOk result IsTableSaid }
         ensures only { ¬ (IsErrOf result PartsError.Fault) }
+        ensures frame { Keeps (state self.old) (state self.new) result };
+
+    /// Gives each region of guest memory this part of a log of dirty pages: `size` bytes of the log `object`, from byte
+    /// `offset` on. `tracks` says whether the device's regions may get one. It is always made, and takes no memory.
+    fn set_log(
+        &mut self,
+        object: u32,
+        offset: u64,
+        size: u64,
+        tracks: bool,
+    ) -> Result<LogSaid, PartsError>
+        ensures row { IsCall (state self.old) (state self.new) result (LogCall object offset size tracks) }
+        ensures said { IfOk result IsLogSaid }
+        ensures made { OnErr result ⊥ }
         ensures frame { Keeps (state self.old) (state self.new) result };
 
     /// Changes a worker's pending set.

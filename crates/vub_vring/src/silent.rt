@@ -1,23 +1,22 @@
 //! Parts that tell nothing of what they hold, as those behind locks.
 ghost use Rattle.std.specs.Prelude.{[], None};
 
-use crate::ops::{HostOp, HostSaid, TableSaid};
+use crate::ops::{HostOp, HostSaid, LogSaid, TableSaid};
 use crate::owned::OwnedParts;
 use crate::parts::Parts;
 use std::alloc::Global;
 use vub_base::{Bytes, OutOfMemory};
-use vub_mem::DirtyLog;
 use vub_model::{Constants, Entry, RingOp, RingSaid, TableOp};
 use vub_proto::{DeviceOp, DeviceSaid, Service, VhostUserBackendMut};
 use vub_ring::{KickSaid, PartsError, PendOp, PendSaid, PutSaid, TableRing, TableRingSaid};
 
 /// Parts that tell nothing. They pass each call on. A change that has to wait is not made, and they answer that it was.
 #[derive(Drop)]
-pub(crate) struct SilentParts<'a, L: DirtyLog, D, V> {
-    pub inner: OwnedParts<'a, L, D, V>,
+pub(crate) struct SilentParts<'a, D, V> {
+    pub inner: OwnedParts<'a, D, V>,
 }
 
-impl<'a, L: DirtyLog, D: VhostUserBackendMut, V: Service> Parts for SilentParts<'a, L, D, V> {
+impl<'a, D: VhostUserBackendMut, V: Service> Parts for SilentParts<'a, D, V> {
     type Service = V;
 
     type Device = D;
@@ -78,6 +77,16 @@ impl<'a, L: DirtyLog, D: VhostUserBackendMut, V: Service> Parts for SilentParts<
 
     fn table(&mut self, alloc: Global, op: TableOp) -> Result<TableSaid, PartsError> {
         self.inner.table(alloc, op)
+    }
+
+    fn set_log(
+        &mut self,
+        object: u32,
+        offset: u64,
+        size: u64,
+        tracks: bool,
+    ) -> Result<LogSaid, PartsError> {
+        self.inner.set_log(object, offset, size, tracks)
     }
 
     fn pend(&mut self, alloc: Global, worker: u32, op: PendOp) -> Result<PendSaid, PartsError> {

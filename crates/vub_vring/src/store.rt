@@ -14,6 +14,7 @@ use crate::ops::{HostOp, HostSaid};
 use std::alloc::Global;
 use vub_base::{Listed, OutOfMemory};
 use vub_event::{Host, MemHost};
+use vub_log::PlainLog;
 use vub_mem::{DirtyLog, GuestMemory};
 use vub_model::{Constants, Entry, RingOp, RingSaid};
 use vub_queue::PutFault;
@@ -24,8 +25,8 @@ use vub_ring::{
 
 /// All parts but the service: guest memory, the rings by queue, the host, and the pending sets by worker.
 #[derive(Drop)]
-pub struct Store<L: DirtyLog> {
-    pub memory: GuestMemory<L>,
+pub struct Store {
+    pub memory: GuestMemory<PlainLog>,
     pub rings: Vec<VringState>,
     pub host: MemHost,
     pub pending: Vec<Pending>,
@@ -230,6 +231,7 @@ pub fn copy_constants(alloc: Global, constants: &Constants) -> Result<Constants,
         max: constants.max,
         features: constants.features,
         protocol: constants.protocol,
+        tracks: constants.tracks,
         masks: Listed::from_vec(masks),
         exits: Listed::from_vec(exits),
     })

@@ -7,6 +7,7 @@ use std::alloc::Global;
 use std::test::Fail;
 use vub_base::{Bytes, Listed, OutOfMemory};
 use vub_event::{EventSet, Host, HostError, MemHost, Member};
+use vub_log::PlainLog;
 use vub_mem::{GuestMemory, Region};
 use vub_model::{Constants, Entry, Guest, RingOp, RingSaid, TableOp, VringEpollError};
 use vub_proto::{DeviceOp, DeviceSaid, FixedDevice, Service};
@@ -53,7 +54,7 @@ fn store(bytes: &mut Vec<u8>, at: usize, what: &[u8]) {
 }
 
 /// One region of 0x4000 bytes with a ring of 8 descriptors and one entry, whose chain asks "hello" and has room for 16.
-fn memory_of(alloc: Global) -> Result<GuestMemory<()>, Fail> {
+fn memory_of(alloc: Global) -> Result<GuestMemory<PlainLog>, Fail> {
     let mut bytes = vec![in alloc; 0; 0x4000]?;
     store(
         &mut bytes,
@@ -92,7 +93,7 @@ fn ring_of() -> Result<VringState, Fail> {
     Ok(ring)
 }
 
-fn store_of(alloc: Global) -> Result<Store<()>, Fail> {
+fn store_of(alloc: Global) -> Result<Store, Fail> {
     let mut host = MemHost::new(alloc);
     host.create_event(alloc, 0)?;
     host.create_event(alloc, 0)?;
@@ -114,6 +115,7 @@ fn constants_of(alloc: Global) -> Result<Constants, Fail> {
         max: 8,
         features: 0,
         protocol: 0,
+        tracks: false,
         masks: Listed::from_vec(vec![in alloc; 1]?),
         exits: Listed::from_vec(vec![in alloc; None]?),
     })
@@ -343,7 +345,7 @@ const OPENINGS: [(u64, Option<VringEpollError>); 5] = [
 ];
 
 /// A store of nothing but a host with one event, which fails the call of this number.
-fn failing_store(alloc: Global, call: u64) -> Result<Store<()>, Fail> {
+fn failing_store(alloc: Global, call: u64) -> Result<Store, Fail> {
     let mut host = MemHost::failing(alloc, vec![in alloc; call]?)?;
     host.create_event(alloc, 0)?;
     Ok(Store {
@@ -355,7 +357,7 @@ fn failing_store(alloc: Global, call: u64) -> Result<Store<()>, Fail> {
 }
 
 /// Why worker 0, whose exit object is event 0, can't be opened.
-fn opening_error(alloc: Global, store: &mut Store<()>) -> Result<Option<VringEpollError>, Fail> {
+fn opening_error(alloc: Global, store: &mut Store) -> Result<Option<VringEpollError>, Fail> {
     let mut device = device_of(alloc);
     let mut service = Echo { asked: 0 };
     let constants = Constants {
@@ -363,6 +365,7 @@ fn opening_error(alloc: Global, store: &mut Store<()>) -> Result<Option<VringEpo
         max: 8,
         features: 0,
         protocol: 0,
+        tracks: false,
         masks: Listed::from_vec(vec![in alloc; 7]?),
         exits: Listed::from_vec(vec![in alloc; Some(0)]?),
     };

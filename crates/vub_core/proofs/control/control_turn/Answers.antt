@@ -53,7 +53,7 @@ returns-in-Some-clause-turned g c =
     let z = c.play_step.new.service in
     let new = c.record_step.new.machine in
     let P : Option Played → Type 0 = λ o. PlaysStep t before now h (shared_of c.play_step.new.store z) d e o in
-    let S : Store (Unit {0}) → Type 0 = λ s. IsPlayedStep t before now h (shared_of s z) d e p in
+    let S : Store → Type 0 = λ s. IsPlayedStep t before now h (shared_of s z) d e p in
     let N : Sitting → Type 0 = λ s. IsPlayedStep t before s h (shared_of new.store z) d e p in
     let stored = subst S (sym c.record_step.ensures.store) (subst P c.in-Some.is c.in_ok-play_step.ensures.row) in
     let handled = subst (λ x. N (record now { player = x })) (sym c.record_step.ensures.handler) stored in

@@ -9,14 +9,14 @@ use Rattle.vub_core.proofs.driving.drive.Goals as goal
 
 pub returns-in-Err-clause-refused : goal.returns-in-Err-clause-refused
 returns-in-Err-clause-refused g c =
-    let k = constants_by g.D.VhostUserBackendMut c.args.device.now in
+    let k = constants_by g.D.VhostUserBackendMut g.D.Bitmap.BitmapReplace.TRACKS c.args.device.now in
     let d = state_by g.D.VhostUserBackendMut c.args.device.now in
     let v = c.args.service.now in
     none-played (meaning_by g.V.Service) (telling_by g.D.VhostUserBackendMut) k c.args.setup.now v c.args.schedule.now d d v refl (opening-service k c.args.setup.now v) refl
 
 pub returns-in-Err-open-clause-refused : goal.returns-in-Err-open-clause-refused
 returns-in-Err-open-clause-refused g c =
-    let k = constants_by g.D.VhostUserBackendMut c.args.device.now in
+    let k = constants_by g.D.VhostUserBackendMut g.D.Bitmap.BitmapReplace.TRACKS c.args.device.now in
     let d = state_by g.D.VhostUserBackendMut c.args.device.now in
     let v = c.args.service.now in
     let refused : IsRefusal (fault_of k c.args.setup.now) c.in-Err-open.fault = search rules in

@@ -30,4 +30,5 @@ returns-clause-world c =
       takes = records.takes;
       uses = records.uses;
       written = records.written ∙ ap (λ objects. map unwritten objects) c.as_slice-2.ensures;
+      harvests = records.harvests;
     })

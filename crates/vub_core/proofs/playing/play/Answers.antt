@@ -13,7 +13,7 @@ use Rattle.vub_core.specs.Meanings.{meaning_by}
 use Rattle.vub_core.proofs.Kept.{on-err}
 use Rattle.vub_core.proofs.Longer.{played-none, played-more, played-all, cut-short}
 use Rattle.vub_core.proofs.Made.{made-same}
-use Rattle.vub_core.proofs.Readying.{first-named}
+use Rattle.vub_core.proofs.Readying.{first-named, next-acts}
 use Rattle.vub_core.proofs.playing.play.Goals as goal
 
 pub turn-requires-clause-ready : goal.turn-requires-clause-ready
@@ -22,6 +22,7 @@ turn-requires-clause-ready g c =
     record {
       requests = so.names;
       first = first-named (length c.args.schedule.now - c.loop-party.party-index) (world_of c.args.setup.now c.loop-party.machine c.loop-party.service) so.sound;
+      acts = next-acts (world_of c.args.setup.now c.loop-party.machine c.loop-party.service) so.sound.logs;
     }
 
 pub returns-in_err-reserve-clause-cut : goal.returns-in_err-reserve-clause-cut

@@ -56,8 +56,8 @@ returns-clause-turn g c =
     let framed = turn-framed (meaning_by g.V.Service) w c.args.worker (shared_of m.store v) c.in_ok-play.play (phase_of c.index_mut-handler.result.now) now (shared_of c.play_worker.new.store z) row in
     with-control (meaning_by g.V.Service) (world_of s m v) (world_of s new z) (Party.Worker c.args.worker) c.in_ok-play.play (begun_of s m) (sym (control-kept s m new v z framed refl refl refl refl))
     (machine-turned (meaning_by g.V.Service) (world_of s m v) c.args.worker m.workers.items c.index_mut-handler.result.now c.take_finished-finished.new.self
-    (shared_of c.play_worker.new.store z) now c.next_footprint-footprint.result c.take_finished-finished.result _ _ _ c.in_ok-play.play
-    refl within c.index_mut-handler.ensures.value
+    (shared_of c.play_worker.new.store z) now c.next_footprint-footprint.result c.take_finished-finished.result _ _ _ c.record.new.self.harvests.items c.in_ok-play.play
+    (ap (λ hs. hs.items) (c.record.ensures.harvests ∙ c.reserve.ensures.harvests)) refl within c.index_mut-handler.ensures.value
     row
     foot
     (c.take_finished-finished.ensures.was ∙ c.in_ok-play.ensures.finished)

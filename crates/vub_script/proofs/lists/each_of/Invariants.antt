@@ -4,5 +4,5 @@ use Rattle.vub_script.specs.Lists.{each}
 use Rattle.vub_script.proofs.Trees.{onward}
 use Rattle.vub_script.proofs.lists.each_of.Given as goal
 
-abbrev pub invariant-loop-value : goal.invariant-loop-value
-invariant-loop-value g l = onward g.T.FromTree.reads l.found l.value-index l.list ≡ each g.T.FromTree.reads (map view l.list)
+abbrev pub invariant-loop-number : goal.invariant-loop-number
+invariant-loop-number g l = onward g.T.FromTree.reads l.found l.number l.list ≡ each g.T.FromTree.reads (map view l.list)

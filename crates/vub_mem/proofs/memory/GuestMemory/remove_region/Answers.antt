@@ -5,7 +5,7 @@ use Rattle.vub_mem.proofs.memory.GuestMemory.remove_region.Goals as goal
 use Rattle.vub_mem.proofs.Tables.{sound_remove, removed_is, removed_none}
 
 pub invariant_of-self : goal.invariant_of-self
-invariant_of-self g c = subst (λ rs. IsSoundMemory g.L.DirtyLog.byte_len (record { guest = record { regions = rs; contents = c.self.inside.contents.items }; logs = c.self.inside.logs.items })) (sym c.remove.ensures.items) (sound_remove g.L.DirtyLog.byte_len _ _ _ _ c.self.invariant)
+invariant_of-self g c = subst (λ rs. IsSoundMemory g.L.DirtyLog.byte_len (record { guest = record { regions = rs; contents = c.self.inside.contents }; logs = c.self.inside.logs.items })) (sym c.remove.ensures.items) (sound_remove g.L.DirtyLog.byte_len _ _ _ _ c.self.invariant)
 
 pub returns-in-None-clause-answer : goal.returns-in-None-clause-answer
 returns-in-None-clause-answer g c =

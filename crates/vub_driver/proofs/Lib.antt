@@ -1,0 +1,12 @@
+pub mod Fitting
+pub mod Flat
+pub mod Cells
+pub mod Writes
+pub mod Kept
+pub mod Submitting
+pub mod Taking
+pub mod Putting
+pub mod Collecting
+pub mod Steps
+pub mod Areas
+pub mod Storing

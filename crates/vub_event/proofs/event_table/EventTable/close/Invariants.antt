@@ -1,8 +1,0 @@
-use Rattle.std.proofs.Common.{◌≡◌}
-use Rattle.vub_event.specs.InterestList.{without_member}
-use Rattle.vub_event.proofs.Mapping.{changed_to}
-use Rattle.vub_event.proofs.event_table.EventTable.close.Given as goal
-
-abbrev pub invariant-loop-members : goal.invariant-loop-members
-invariant-loop-members l =
-    l.members-items ≡ changed_to (λ members. without_member members l.object) l.members-index l.initial.members-items

@@ -1,6 +1,0 @@
-use Rattle.vub_event.proofs.Striking.{struck}
-use Rattle.vub_event.proofs.mem_host.MemHostHost.ready.Goals as goal
-
-pub returns-then-strikes-clause-faults : goal.returns-then-strikes-clause-faults
-returns-then-strikes-clause-faults c =
-    struck _ _ _ _ _ c.if-strikes.true c.strikes.ensures.sound c.strikes.ensures.calls c.strikes.ensures.faults c.strikes.ensures.small

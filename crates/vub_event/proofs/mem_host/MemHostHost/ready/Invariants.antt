@@ -1,0 +1,4 @@
+use Rattle.vub_event.proofs.mem_host.MemHostHost.ready.Given as goal
+
+abbrev pub ghosts-ready_with : goal.ghosts-ready_with
+ghosts-ready_with a = record { name = a.blank.name; parts = a.blank.parts }

@@ -1,6 +1,0 @@
-use Rattle.std.proofs.Common.{◌≡◌, drop}
-use Rattle.vub_event.specs.HostTable.{reports_of}
-use Rattle.vub_event.proofs.members.Members.first_ready.Given as goal
-
-abbrev pub invariant-loop-member : goal.invariant-loop-member
-invariant-loop-member l = reports_of l.objects (drop l.member-index l.members) ≡ reports_of l.objects l.members

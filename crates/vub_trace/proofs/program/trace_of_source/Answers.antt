@@ -1,0 +1,13 @@
+use Rattle.vub_share.specs.Inputs.{HasScript}
+use Rattle.vub_trace.proofs.TraceOf.{if-told, calls-caused}
+use Rattle.vub_trace.proofs.program.trace_of_source.Goals as goal
+
+pub returns-in-Ok-clause-calls : goal.returns-in-Ok-clause-calls
+returns-in-Ok-clause-calls g c =
+    if-told (g.S.Source.left c.args.source.now) (λ input. HasScript input c.in_ok-script.script) _ c.in_ok-script.ensures.script
+    (λ input has. (c.in_ok-script.script, has, c.in-Ok.ensures.trace))
+
+pub returns-in-Err-clause-calls : goal.returns-in-Err-clause-calls
+returns-in-Err-clause-calls g c =
+    if-told (g.S.Source.left c.args.source.now) (λ input. HasScript input c.in_ok-script.script) _ c.in_ok-script.ensures.script
+    (λ input has. calls-caused input c.in_ok-script.script c.in-Err.why has c.in-Err.ensures.refused)
