@@ -31,7 +31,8 @@ use Rattle.vub_plan.specs.Halves.{Begun, with_head, plan_at, dropped, turned, st
 use Rattle.vub_handler.specs.declared.acted.Acted.{Acted}
 use Rattle.vub_handler.specs.declared.acted.Acted.TheVariants.{Made}
 use Rattle.vub_handler.specs.declared.played.Played.{Played}
-use Rattle.vub_handler.specs.Acting.{RowOrFault, IsRowOf, IsFaultOf, HasRefused, IsCaused, table_turn, IsStill, Acts}
+use Rattle.vub_loop.specs.Faults.{RowOrFault}
+use Rattle.vub_handler.specs.Acting.{IsRowOf, IsFaultOf, HasRefused, IsCaused, table_turn, IsStill, Acts}
 use Rattle.vub_handler.specs.Player.{Player}
 use Rattle.vub_handler.specs.Playing.{known_by, WaitsAt, IsPlayRow, IsPlayFault, IsCausedReply, IsHeld, PlayedBy}
 use Rattle.vub_handler.proofs.PartRows.{table-row, uncalled}

@@ -6,7 +6,7 @@ use Rattle.vub_event.specs.declared.error.HostError.TheVariants.{WouldBlock, EIN
 use Rattle.vub_event.specs.Errors.{IsDue}
 use Rattle.vub_vring.specs.declared.ops.HostSaid.TheVariants as said
 use Rattle.vub_vring.specs.Calls.{IsSaid}
-use Rattle.vub_handler.specs.Acting.{RowOrFault}
+use Rattle.vub_loop.specs.Faults.{RowOrFault}
 
 -- what follows from what is told holds where it is told
 pub told-map : {A : Type 0} (a b : Option A) (P Q : A → A → Type 0) → ((x y : A) → P x y → Q x y) → Told a b P → Told a b Q

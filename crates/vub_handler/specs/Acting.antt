@@ -35,6 +35,7 @@ use Rattle.vub_vring.specs.PartsState.{PartsState, HasFailed, Tells, Lasts}
 use Rattle.vub_plan.specs.declared.half.Turn.{Turn}
 use Rattle.vub_plan.specs.declared.half.Turn.TheVariants as turn
 use Rattle.vub_plan.specs.Halves.{turned}
+use Rattle.vub_loop.specs.Faults.{RowOrFault}
 use Rattle.vub_handler.specs.declared.acted.Acted.{Acted}
 use Rattle.vub_handler.specs.declared.acted.Acted.TheVariants.{Waits, Made}
 
@@ -87,12 +88,6 @@ IsNamed g t (Delete worker object) = has_event t object ≡ true
 IsNamed g t (Listen worker object token) = has_both t (opened_at g worker).list object ≡ true
 IsNamed g t (Unlisten worker object above) = has_both t (opened_at g worker).list object ≡ true
 IsNamed g t s = Unit {0}
-
--- The row holds; or the count of the host's faults rose, and this is what a fault leaves. Where the host has no call to
--- fail, `Sound`, the row holds.
-pub record RowOrFault (Sound Rise Row AfterFault : Type 0) : Type 0 where
-  pub row : Row ⊎ (Rise × AfterFault)
-  pub sound : Sound → Row
 
 -- the step was played: what it leaves, and what it makes of the rest of its plan
 pub record IsRowOf {V : Type 0} (g : Wiring) (s : Small) (said : DeviceSaid) (t : Turn) (old new : Shared V)

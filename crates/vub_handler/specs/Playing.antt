@@ -27,7 +27,8 @@ use Rattle.vub_plan.specs.Wires.{known_in}
 use Rattle.vub_handler.specs.declared.played.Played.{Played}
 use Rattle.vub_handler.specs.declared.played.Progress.{Progress}
 use Rattle.vub_handler.specs.declared.played.Progress.TheVariants as progress
-use Rattle.vub_handler.specs.Acting.{IsNamed, RowOrFault, HasRefused, IsCausedAnswer, called, CallsBy}
+use Rattle.vub_loop.specs.Faults.{RowOrFault}
+use Rattle.vub_handler.specs.Acting.{IsNamed, HasRefused, IsCausedAnswer, called, CallsBy}
 use Rattle.vub_handler.specs.Player.{Player}
 
 -- kicks and flags of the rings are those that the session knows

@@ -20,7 +20,7 @@ use Rattle.vub_model.specs.Written.{spots_of}
 use Rattle.vub_laws.specs.Alone.{table_spots, request_spots, walk_reads, head_reads, take_reads}
 use Rattle.vub_laws.proofs.EntriesLeft.{EntryAt, entry-at, head-by, head-is}
 use Rattle.vub_laws.proofs.Logless.{same-covers}
-use Rattle.vub_laws.proofs.Agreeing.{Agree, Off, off-part, bytes-same, number-same, Clear, off-clear, clear-left, clear-right}
+use Rattle.vub_laws.proofs.Agreeing.{Agree, Off, off-piece, bytes-same, number-same, Clear, off-clear, clear-left, clear-right}
 
 module _ (F : ℕ → ℕ → Type 0) (g h : Guest) (x : Agree F g h) where
   head-logless : (r : Ring) (word slot : ℕ) → head-by h.regions r word slot ≡ head-by g.regions r word slot
@@ -39,10 +39,10 @@ module _ (F : ℕ → ℕ → Type 0) (g h : Guest) (x : Agree F g h) where
   same-descriptor a off =
       let here : a + 0 ≡ a = omega arith in
       let O : ℕ → Type 0 = λ y. Off F g.regions y 8 in
-      let addr = number-same F w64 g h a (subst O here (off-part F g.regions a 16 0 8 (omega arith) off)) x in
-      let len = number-same F w32 g h (a + 8) (off-part F g.regions a 16 8 4 (omega arith) off) x in
-      let flags = number-same F w16 g h (a + 12) (off-part F g.regions a 16 12 2 (omega arith) off) x in
-      let next = number-same F w16 g h (a + 14) (off-part F g.regions a 16 14 2 (omega arith) off) x in
+      let addr = number-same F w64 g h a (subst O here (off-piece F g.regions a 16 0 8 (omega arith) off)) x in
+      let len = number-same F w32 g h (a + 8) (off-piece F g.regions a 16 8 4 (omega arith) off) x in
+      let flags = number-same F w16 g h (a + 12) (off-piece F g.regions a 16 12 2 (omega arith) off) x in
+      let next = number-same F w16 g h (a + 14) (off-piece F g.regions a 16 14 2 (omega arith) off) x in
       rw (addr, len, flags, next) refl
 
   same-stands : (t : Table) (i : ℕ) (d : Descriptor) → Off F g.regions (slot_of t i) 16 → Stands g t i d → Stands h t i d

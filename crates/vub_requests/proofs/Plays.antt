@@ -216,12 +216,12 @@ due-caused : (F R : Type 0) (x : Reply) (a : Answer) → IsCausedReply F R x →
 due-caused F R (says x) a is due = subst (λ y. IsCausedAnswer F R y) (sym due) is
 due-caused F R (next_of queue) a is due = subst (λ y. IsCausedAnswer F R y) (sym due.1) tt
 
-caused-more : (F1 R1 F2 R2 F R : Type 0) → (F1 → F) → (R1 → R) → (F2 → F) → (R2 → R) → (was mid left : Reply) (a : Option Answer) → IsCausedBy F1 R1 was mid None → ((x : Answer) → a ≡ Some x → IsDueFrom mid x) → (left ≡ mid) ⊎ IsCausedReply F2 R2 left → IsCausedBy F R was left a
-caused-more F1 R1 F2 R2 F R f1 r1 f2 r2 was mid left None (inl same) due (inl kept) = inl (kept ∙ same)
-caused-more F1 R1 F2 R2 F R f1 r1 f2 r2 was mid left None (inr caused) due (inl kept) = inr (subst (λ x. IsCausedReply F R x) (sym kept) (reply-map F1 F R1 R f1 r1 mid caused))
-caused-more F1 R1 F2 R2 F R f1 r1 f2 r2 was mid left None first due (inr caused) = inr (reply-map F2 F R2 R f2 r2 left caused)
-caused-more F1 R1 F2 R2 F R f1 r1 f2 r2 was mid left (Some a) (inl same) due then = inl (subst (λ x. IsDueFrom x a) same (due a refl))
-caused-more F1 R1 F2 R2 F R f1 r1 f2 r2 was mid left (Some a) (inr caused) due then = inr (due-caused F R mid a (reply-map F1 F R1 R f1 r1 mid caused) (due a refl))
+caused-more : (Fault Refused Later Denied F R : Type 0) → (Fault → F) → (Refused → R) → (Later → F) → (Denied → R) → (was mid left : Reply) (a : Option Answer) → IsCausedBy Fault Refused was mid None → ((x : Answer) → a ≡ Some x → IsDueFrom mid x) → (left ≡ mid) ⊎ IsCausedReply Later Denied left → IsCausedBy F R was left a
+caused-more Fault Refused Later Denied F R f r g s was mid left None (inl same) due (inl kept) = inl (kept ∙ same)
+caused-more Fault Refused Later Denied F R f r g s was mid left None (inr caused) due (inl kept) = inr (subst (λ x. IsCausedReply F R x) (sym kept) (reply-map Fault F Refused R f r mid caused))
+caused-more Fault Refused Later Denied F R f r g s was mid left None first due (inr caused) = inr (reply-map Later F Denied R g s left caused)
+caused-more Fault Refused Later Denied F R f r g s was mid left (Some a) (inl same) due then = inl (subst (λ x. IsDueFrom x a) same (due a refl))
+caused-more Fault Refused Later Denied F R f r g s was mid left (Some a) (inr caused) due then = inr (due-caused F R mid a (reply-map Fault F Refused R f r mid caused) (due a refl))
 
 -- All of it
 

@@ -1,5 +1,6 @@
 //! What the calls on rings and pending sets are asked, and what they say.
 use crate::pending::Pending;
+use thiserror::Error;
 use vub_queue::{Chain, Damage, PutFault};
 
 /// A step of one ring together with guest memory.
@@ -70,9 +71,11 @@ pub enum PendSaid {
 }
 
 /// Why a call of `Parts` was not made.
-#[derive(Clone, Copy, Debug, PartialEq, Eq)]
+#[derive(Clone, Copy, Debug, PartialEq, Eq, Error)]
 pub enum PartsError {
     /// The host failed; its count of faults rose.
+    #[error("host failed")]
     Fault,
+    #[error("out of memory")]
     OutOfMemory,
 }
