@@ -48,7 +48,7 @@ impl BlockService {
         ensures only { IfErr result (λ e. (new_fault sectors (length id.now) ≡ Some e) ⊎ (e ≡ BlockError.OutOfMemory)) }
         ensures ok { IfOk result (λ d. d ≡ new_disk sectors id.now) }
     {
-        if let Some(fault) = fault_of(sectors, id.len()) {
+        if let Some(fault) = disk_fault(sectors, id.len()) {
             return Err(fault);
         }
         match made(alloc, sectors, id) {
@@ -185,8 +185,8 @@ impl BlockService {
     }
 }
 
-/// The first test that a new disk fails.
-fn fault_of(sectors: u32, id_len: usize) -> Option<BlockError>
+/// The first test that a new disk of so many sectors, with an id of so many bytes, fails: `TooBig` or `Id`.
+pub fn disk_fault(sectors: u32, id_len: usize) -> Option<BlockError>
     ensures value { result ≡ new_fault sectors id_len }
     ensures sectors { IfNone result (sectors ≤ 131072) }
     ensures id { IfNone result (id_len ≤ 20) }

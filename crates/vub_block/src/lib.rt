@@ -13,7 +13,7 @@ mod sectors;
 mod status;
 pub mod types;
 
-pub use disk::BlockService;
+pub use disk::{BlockService, disk_fault};
 pub use erase::Erase;
 pub use error::BlockError;
 pub use laws::refusals_change_nothing;

@@ -7,6 +7,8 @@ mod answers;
 #[cfg(test)]
 mod base;
 #[cfg(test)]
+mod disk;
+#[cfg(test)]
 mod faults;
 #[cfg(test)]
 mod hostile;

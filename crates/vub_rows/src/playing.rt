@@ -74,7 +74,7 @@ pub fn play(
     let mut source = MemSource::new(input, streams.read_piece.max(1), failing);
     let failing = listed(alloc, streams.failing_write)?;
     let stalling = listed(alloc, streams.stalling_write)?;
-    let mut sink = MemSink::new(alloc, 4096, streams.write_piece.max(1), failing, stalling)?;
+    let mut sink = MemSink::new(alloc, 16_384, streams.write_piece.max(1), failing, stalling)?;
     let finished = finished(alloc, words, &mut source, &mut sink);
     let written = Bytes::from_slice(alloc, sink.bytes())?;
     Ok(Played {

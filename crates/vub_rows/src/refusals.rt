@@ -7,7 +7,7 @@ use vub_base::OutOfMemory;
 use vub_share::{MemSource, NoRun, Script, play_script, read_script};
 
 /// Inputs that are no scripts, each with its line.
-const NO_SCRIPTS: [(&str, &str); 46] = [
+const NO_SCRIPTS: [(&str, &str); 50] = [
     (
         r#"{"objects":["#,
         r#"line 1, column 12: no JSON text (RFC 8259 in UTF-8, nested at most 127 deep)"#,
@@ -32,11 +32,27 @@ const NO_SCRIPTS: [(&str, &str); 46] = [
     ),
     (
         r#"{"service":"Echo"}"#,
-        r#"/service: a service is "echo" or {"dir":[entry,..]}"#,
+        r#"/service: a service is "echo", {"dir":[entry,..]} or {"block":sectors,"id":HEX}"#,
     ),
     (
         r#"{"service":{"dir":[],"block":[]}}"#,
-        r#"/service: a service is "echo" or {"dir":[entry,..]}"#,
+        r#"/service: a service is "echo", {"dir":[entry,..]} or {"block":sectors,"id":HEX}"#,
+    ),
+    (
+        r#"{"service":{"block":8}}"#,
+        r#"/service/id: this key has to be given"#,
+    ),
+    (
+        r#"{"service":{"block":4294967296,"id":""}}"#,
+        r#"/service/block: this number is below 4294967296"#,
+    ),
+    (
+        r#"{"service":{"block":131073,"id":""}}"#,
+        r#"/service: this is no disk: disk has more than 131072 sectors"#,
+    ),
+    (
+        r#"{"service":{"block":8,"id":"000000000000000000000000000000000000000000"}}"#,
+        r#"/service: this is no disk: id has more than 20 bytes"#,
     ),
     (
         r#"{"service":{"dir":{}}}"#,

@@ -8,9 +8,11 @@ use Rattle.vub_script.specs.declared.draft.Draft.{Draft}
 use Rattle.vub_script.specs.declared.refusal.Refusal.{Refusal}
 use Rattle.vub_script.specs.declared.refusal.Refusal.TheVariants.{NoScript, OutOfMemory}
 use Rattle.vub_script.specs.declared.service_form.ServiceForm.{ServiceForm}
-use Rattle.vub_script.specs.declared.service_form.ServiceForm.TheVariants.{Echo, Dir}
-use Rattle.vub_script.specs.Reading.{◌>>=◌, Gives, or_default}
+use Rattle.vub_script.specs.declared.service_form.ServiceForm.TheVariants.{Echo, Dir, Block}
+use Rattle.vub_script.specs.Reading.{◌>>=◌, Gives, given, or_default}
 use Rattle.vub_script.specs.Keys.{has_form}
+use Rattle.vub_script.specs.Disks.{is_disk_key, is_disk, disk_of}
+use Rattle.vub_script.specs.Keys.{object_keys_are}
 use Rattle.vub_script.specs.Directory.{is_served, entries_of, directory_of, service_form, service_of}
 use Rattle.std.specs.Str.{bytes_eq}
 use Rattle.vub_model.specs.declared.setup.GivenRegion.{GivenRegion}
@@ -20,6 +22,7 @@ use Rattle.vub_proto.specs.declared.request.Request.{Request}
 use Rattle.vub_script.specs.declared.device_form.DeviceForm.{DeviceForm}
 use Rattle.vub_script.specs.declared.draft.ObjectDraft.{ObjectDraft}
 use Rattle.vub_script.specs.Numbers.{number_of, u32_of}
+use Rattle.vub_script.specs.Hexadecimal.{bytes_of}
 use Rattle.vub_script.specs.Lists.{list_of}
 use Rattle.vub_script.specs.Objects.{lone_member, object_of}
 use Rattle.vub_script.specs.Regions.{region_of}
@@ -54,11 +57,20 @@ a_directory d = chained (entries_of d) _ _ (λ es is. tested es (is_none (first_
 a_form : (k : List ℕ) (d : Data) → IfSome (service_form k d) Fine
 a_form k d = chosen (bytes_eq k (codes "dir")) (directory_of d) None Fine (a_directory d) tt
 
+tested_disk : (sectors : ℕ) (id : List ℕ) (b : Bool) → is_disk sectors id ≡ b → IfSome (if b then Some (Block sectors id) else None) Fine
+tested_disk sectors id true is = is
+tested_disk sectors id false is = tt
+
+a_disk : (d : Data) → IfSome (disk_of d) Fine
+unfolding disk_of
+a_disk d = chained (given u32_of (get (codes "block") d)) _ Fine (λ sectors is. chained (given bytes_of (get (codes "id") d)) _ Fine (λ id also. tested_disk sectors id (is_disk sectors id) refl))
+
 a_service : (d : Data) → IfSome (service_of d) (λ s. is_served s ≡ true)
 unfolding service_of
 a_service d = chosen _ (Some Echo) _ (λ s. is_served s ≡ true) refl
+    (chosen (object_keys_are is_disk_key d) (disk_of d) _ Fine (a_disk d)
     (chained (as_object d) (λ ms. lone_member ms >>= λ m. service_form m.0 m.1) Fine
-    (λ ms is. chained (lone_member ms) (λ m. service_form m.0 m.1) Fine (λ m are. a_form m.0 m.1)))
+    (λ ms is. chained (lone_member ms) (λ m. service_form m.0 m.1) Fine (λ m are. a_form m.0 m.1))))
 
 a_service_or_echo : (o : Option Data) → IfSome (or_default Echo service_of o) (λ s. is_served s ≡ true)
 a_service_or_echo None = refl

@@ -1,4 +1,4 @@
--- The service of a script: `"echo"`, or `{"dir":[entry,..]}`, a directory whose entries are files,
+-- The service of a script: `"echo"`, a disk, or `{"dir":[entry,..]}`, a directory whose entries are files,
 -- `{"name":TEXT,"hex":HEX}`, and directories, `{"name":TEXT,"entries":[entry,..]}`.
 use Rattle.std.specs.Prelude.{ℕ, zero, suc, ◌+◌, ◌||◌, Bool, true, if◌then◌else◌, List, [], ◌∷◌, ◌++◌, length, codes}
 use Rattle.std.specs.Prelude.{Option, Some, None, is_none, option_map}
@@ -8,9 +8,10 @@ use Rattle.serde_json.specs.Find.{as_array, as_object, as_str, get}
 use Rattle.vub_dir.specs.Building.{first_fault}
 use Rattle.vub_dir.specs.declared.entry.TreeEntry.{TreeEntry}
 use Rattle.vub_script.specs.declared.service_form.ServiceForm.{ServiceForm}
-use Rattle.vub_script.specs.declared.service_form.ServiceForm.TheVariants.{Echo, Dir}
+use Rattle.vub_script.specs.declared.service_form.ServiceForm.TheVariants.{Echo, Dir, Block}
 use Rattle.vub_script.specs.Reading.{◌>>=◌}
 use Rattle.vub_script.specs.Hexadecimal.{bytes_of}
+use Rattle.vub_script.specs.Disks.{is_disk_key, is_disk, disk_of}
 use Rattle.vub_script.specs.Keys.{object_keys_are}
 use Rattle.vub_script.specs.Leaves.{is_text}
 use Rattle.vub_script.specs.Lists.{items_list}
@@ -66,10 +67,11 @@ with_entries (suc depth) parent ds found = each_onto (with_entry (with_entries d
 unfoldable pub entries_of : Data → Option (List TreeEntry)
 entries_of d = as_array d >>= λ ds. with_entries 65 1 (items_list ds) []
 
--- a service that can be served: the entries of a directory make a tree
+-- a service that can be served: the entries of a directory make a tree, sectors and id make a disk
 abbrev pub is_served : ServiceForm → Bool
 is_served Echo = true
 is_served (Dir entries) = is_none (first_fault entries)
+is_served (Block sectors id) = is_disk sectors id
 
 -- a directory whose entries make a tree
 unfoldable pub directory_of : Data → Option ServiceForm
@@ -81,4 +83,5 @@ service_form k d = if bytes_eq k (codes "dir") then directory_of d else None
 unfoldable pub service_of : Data → Option ServiceForm
 service_of d =
     if is_text d (codes "echo") then Some Echo
+    else if object_keys_are is_disk_key d then disk_of d
     else as_object d >>= λ ms. lone_member ms >>= λ m. service_form m.0 m.1

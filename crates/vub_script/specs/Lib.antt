@@ -13,6 +13,7 @@ pub mod Guest
 pub mod Calls
 pub mod Parts
 pub mod Requests
+pub mod Disks
 pub mod Directory
 pub mod Keys
 pub mod Draft

@@ -6,6 +6,7 @@ mod arguments;
 mod bitmaps;
 mod calls;
 mod device_form;
+mod disks;
 mod draft;
 mod entries;
 mod fault;

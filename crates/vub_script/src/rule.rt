@@ -1,4 +1,5 @@
 use thiserror::Error;
+use vub_block::BlockError;
 use vub_dir::TreeError;
 
 /// What a part of a text would have to be for the text to be a script.
@@ -24,7 +25,7 @@ pub enum Rule {
     #[error("no such key; a script has service, objects, regions, rings, requests, guest, queues, max_size, masks, features, \
 protocol, config, bitmap, exits, refuse, schedule, rounds")]
     ScriptKey,
-    #[error("a service is \"echo\" or {{\"dir\":[entry,..]}}")]
+    #[error("a service is \"echo\", {{\"dir\":[entry,..]}} or {{\"block\":sectors,\"id\":HEX}}")]
     Service,
     #[error("an entry is {{\"name\":TEXT,\"hex\":HEX}} or {{\"name\":TEXT,\"entries\":[entry,..]}}")]
     Entry,
@@ -33,6 +34,9 @@ protocol, config, bitmap, exits, refuse, schedule, rounds")]
     /// The entries are no tree.
     #[error("these entries are no directory: {0}")]
     Tree(TreeError),
+    /// The sectors and the id are no disk.
+    #[error("this is no disk: {0}")]
+    Disk(BlockError),
     #[error("an object is {{\"event\":flags}}, {{\"bytes\":length}}, {{\"hex\":HEX}} or {{\"log\":length}}")]
     Object,
     #[error("a bitmap is \"none\" or \"pages\"")]

@@ -1,4 +1,4 @@
-use vub_base::Listed;
+use vub_base::{Bytes, Listed};
 use vub_dir::TreeEntry;
 
 /// The service that a script asks for.
@@ -8,4 +8,6 @@ pub enum ServiceForm {
     Echo,
     /// It serves the tree of these entries, each of which stands behind the directory that it is in.
     Dir(Listed<TreeEntry>),
+    /// It serves a disk of so many sectors of 512 bytes, all of them holes, with this id.
+    Block { sectors: u32, id: Bytes },
 }

@@ -4,6 +4,7 @@ ghost use Rattle.serde_json.specs.View.{view};
 ghost use Rattle.vub_script.specs.Reading.{Gives};
 ghost use Rattle.vub_script.specs.Directory.{directory_of, service_form, service_of};
 
+use crate::disks::{disk_from, is_in_disk_form};
 use crate::entries::entries_from;
 use crate::fault::Fault;
 use crate::leaves::is_the_text;
@@ -49,6 +50,9 @@ impl FromTree for ServiceForm {
     fn from_tree(alloc: Global, value: &Value) -> Result<ServiceForm, Refusal> {
         if is_the_text(value, "echo") {
             return Ok(ServiceForm::Echo);
+        }
+        if is_in_disk_form(value) {
+            return disk_from(alloc, value);
         }
         let Value::Object(map) = value else {
             return Err(Refusal::NoScript(Fault::of(alloc, Rule::Service)));

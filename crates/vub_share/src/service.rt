@@ -4,6 +4,7 @@ ghost use Rattle.vub_share.specs.Service.{service_from};
 
 use std::alloc::Global;
 use vub_base::{Bytes, OutOfMemory};
+use vub_block::{BlockError, BlockService};
 use vub_dir::{DirService, Tree, TreeError};
 use vub_proto::{Echo, Service};
 use vub_script::ServiceForm;
@@ -13,6 +14,7 @@ use vub_script::ServiceForm;
 pub enum ScriptService {
     Echo(Echo),
     Directory(DirService),
+    Disk(BlockService),
 }
 
 impl ScriptService {
@@ -31,6 +33,15 @@ impl ScriptService {
                 Err(TreeError::OutOfMemory) => Err(OutOfMemory),
                 Err(_) => unreachable!("the entries make a tree"),
             },
+            ServiceForm::Block { sectors, id } => match BlockService::new(
+                alloc,
+                sectors,
+                id.as_slice(),
+            ) {
+                Ok(disk) => Ok(ScriptService::Disk(disk)),
+                Err(BlockError::OutOfMemory) => Err(OutOfMemory),
+                Err(_) => unreachable!("sectors and id make a disk"),
+            },
         }
     }
 }
@@ -46,6 +57,7 @@ impl Service for ScriptService {
         match self {
             ScriptService::Echo(echo) => echo.serve(alloc, request, room),
             ScriptService::Directory(directory) => directory.serve(alloc, request, room),
+            ScriptService::Disk(disk) => disk.serve(alloc, request, room),
         }
     }
 }
