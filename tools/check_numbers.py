@@ -1,9 +1,9 @@
 #!/usr/bin/env python3
 """Compares the numbers and texts of crates/vub_util with this machine's headers and C library.
 
-All that it compares is read from the crate: the constants of src/ioctl.rt; the calls of src/tests.rt on ioctl numbers,
+All that it compares is read from the crate and its tests (crates/vub_host_rows/src/util.rt): the constants of src/ioctl.rt; the tests' calls on ioctl numbers,
 each with the number that its `assert_eq!` expects; the error texts of specs/Errno.antt, which src/errno.rt must repeat
-and each of whose numbers must be one of <errno.h>; and the printed errors that src/tests.rt expects. The other side is
+and each of whose numbers must be one of <errno.h>; and the printed errors that the tests expect. The other side is
 what a small C program prints: <asm-generic/ioctl.h>'s own macros at the same arguments, and strerror. A number that
 has no text in the table is printed as unknown, whatever strerror says of it. A difference ends it with status 1.
 """
@@ -40,7 +40,7 @@ def constants():
 def expected_ioctls(known):
     """What the tests expect: the function, its arguments as numbers, and the number that it is to answer."""
     tested = re.findall(r"assert_eq!\(rt;\s*ioctl::(\w+)\(([^()]*)\),\s*(0x[\da-f_]+|[\d_]+)\s*\);",
-                        text_of("src", "tests.rt"))
+                        text_of("..", "vub_host_rows", "src", "util.rt"))
     return [(function, [value_of(word, known) for word in arguments.split(",")], int(number.replace("_", ""), 0))
             for function, arguments, number in tested]
 
@@ -59,7 +59,7 @@ def texts():
 
 def expected_errors():
     """The printed errors that the tests expect, by number."""
-    found = re.findall(r'\((-?\d+), "(.*? \(os error -?\d+\))"\)', text_of("src", "tests.rt"))
+    found = re.findall(r'\((-?\d+), "(.*? \(os error -?\d+\))"\)', text_of("..", "vub_host_rows", "src", "util.rt"))
     return {int(number): text for number, text in found}
 
 

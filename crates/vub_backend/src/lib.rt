@@ -7,6 +7,3 @@ mod rw_lock;
 
 pub use mutex::MutexBackend;
 pub use rw_lock::RwLockBackend;
-
-#[cfg(test)]
-mod tests;

@@ -2,6 +2,7 @@ ghost use Rattle.std.specs.Prelude.{◌≡◌, IfOk};
 ghost use Rattle.vub_open.specs.Asked.{constants_by};
 
 use std::alloc::Global;
+use std::fmt;
 use std::marker::Model;
 use std::sync::{RwLock, Wait};
 use vub_base::{Bytes, OutOfMemory};
@@ -26,6 +27,13 @@ impl<D: VhostUserBackendMut, R: Wait + Drop> Model for RwLockBackend<D, R> {
     ghost Value = { Constants };
 
     ghost view = { λ b. b.constants };
+}
+
+/// Shows the constants, and asks neither the lock nor the device.
+impl<D: VhostUserBackendMut, R: Wait + Drop> fmt::Debug for RwLockBackend<D, R> {
+    fn fmt<W: fmt::Write>(&self, f: &mut fmt::Formatter<W>) -> fmt::Result {
+        write!(f, "RwLockBackend {{ constants: {:?} }}", self.constants)
+    }
 }
 
 impl<D: VhostUserBackendMut, R: Wait + Drop> RwLockBackend<D, R> {

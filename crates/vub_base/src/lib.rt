@@ -11,6 +11,3 @@ pub use listed::Listed;
 pub use memory::OutOfMemory;
 pub use octets::Bytes;
 pub use steps::Steps;
-
-#[cfg(test)]
-mod tests;

@@ -19,6 +19,3 @@ pub use error::BlockError;
 pub use laws::refusals_change_nothing;
 pub use request::Piece;
 pub use status::Status;
-
-#[cfg(test)]
-mod tests;

@@ -18,8 +18,6 @@ mod records;
 mod rest;
 mod session;
 mod spans;
-#[cfg(test)]
-mod tests;
 mod turns;
 mod written;
 

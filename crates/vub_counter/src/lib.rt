@@ -17,6 +17,3 @@ pub use eventfd_flags::{EFD_CLOEXEC, EFD_NONBLOCK, EFD_SEMAPHORE};
 pub use message::Message;
 pub use messages::{IntoIovec, MemSocket, ScmSocket};
 pub use timer::TimerFd;
-
-#[cfg(test)]
-mod tests;

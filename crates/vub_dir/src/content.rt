@@ -5,7 +5,7 @@ use std::alloc::{AllocError, Global};
 use std::marker::Model;
 
 /// The bytes of one file.
-#[derive(Drop)]
+#[derive(Debug, Drop)]
 pub struct Content {
     octets: Vec<u8>,
 }

@@ -15,7 +15,7 @@ use vub_proto::Service;
 
 /// The service of a shared directory: it answers FUSE requests over one tree, and writes into the tree's files. A
 /// contract sees its tree.
-#[derive(Drop)]
+#[derive(Debug, Drop)]
 pub struct DirService {
     tree: Tree,
 }

@@ -21,6 +21,3 @@ mod tree;
 pub use directory::{DirService, reply};
 pub use entry::{TreeEntry, TreeError};
 pub use tree::Tree;
-
-#[cfg(test)]
-mod tests;

@@ -10,7 +10,7 @@ use std::marker::Model;
 
 /// The names of one directory, each with the node that it names. A name is found by its hash, and by its place. A
 /// contract sees the list of the names.
-#[derive(Drop)]
+#[derive(Debug, Drop)]
 pub struct Names {
     // on the heap, so that a node is no larger than a file needs
     nodes: Box<IndexMap<Vec<u8>, u64>>,

@@ -8,7 +8,7 @@ use crate::layout::Field;
 use crate::names::Names;
 
 /// What a node of the tree is. `N` is what holds the names of a directory.
-#[derive(Drop)]
+#[derive(Debug, Drop)]
 pub enum Node<N> {
     /// A directory, with the names in it.
     Directory(N),

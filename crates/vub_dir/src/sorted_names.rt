@@ -7,7 +7,7 @@ use std::marker::Model;
 
 /// The names of one directory while its tree is built, each with the node that it names: a name goes to its place in
 /// name order. A contract sees them as a list in that order.
-#[derive(Drop)]
+#[derive(Debug, Drop)]
 pub struct SortedNames {
     nodes: BTreeMap<Vec<u8>, u64>,
 }

@@ -12,7 +12,7 @@ use std::marker::Model;
 
 /// Directories and files, numbered from the root, which is node 1. A contract sees the list of the nodes, the root
 /// first.
-#[derive(Drop)]
+#[derive(Debug, Drop)]
 pub struct Tree {
     nodes: Vec<Node<Names>>,
 }

@@ -21,8 +21,3 @@ pub use driver::Driver;
 pub use error::DriverError;
 pub use laws::{driver_understands, submits_are_stores};
 pub use layout::Layout;
-
-#[cfg(test)]
-mod device;
-#[cfg(test)]
-mod tests;

@@ -22,6 +22,3 @@ pub use host::Host;
 pub use mem_host::MemHost;
 pub use member::Member;
 pub use ready::Ready;
-
-#[cfg(test)]
-mod tests;

@@ -1,2 +1,3 @@
+pub mod All
 pub mod Waiting
 pub mod Writing

@@ -1,5 +1,5 @@
 -- What a wait leaves in the events that are handed to it, and in a poll context.
-use Rattle.std.specs.Prelude.{ℕ, ◌+◌, ◌-◌, ◌^◌, if◌then◌else◌, Bool, true, length, List, [], min, Result, Ok, Err}
+use Rattle.std.specs.Prelude.{ℕ, ◌+◌, ◌-◌, ◌^◌, if◌then◌else◌, Bool, true, length, List, [], min, Result, Ok, Err, Some}
 use Rattle.vub_event.specs.declared.error.HostError.{HostError}
 use Rattle.vub_host.specs.declared.epoll.EpollEvent.{EpollEvent}
 use Rattle.vub_host.specs.PollEvents.{meeting}
@@ -30,7 +30,7 @@ events_after_wait (Err e) before = before
 abbrev pub holding : Poll → List EpollEvent → Poll
 holding poll events = record poll {
   events = events;
-  hangups = if poll.checks then min (poll.hangups + length (meeting 0x10 events)) (2 ^ 64 - 1) else poll.hangups;
+  hangups = if poll.checks then min (poll.hangups + length (meeting (Some 0x10) events)) (2 ^ 64 - 1) else poll.hangups;
 }
 
 -- the poll context after a wait; a refused wait leaves it as it was

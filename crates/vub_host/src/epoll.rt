@@ -182,7 +182,7 @@ impl Epoll {
 
 /// Writes the events that report these members to the front of `events`, as many as it has room for, and answers how
 /// many.
-pub(crate) fn write_events(events: &mut [EpollEvent], ready: &[Ready]) -> usize
+fn write_events(events: &mut [EpollEvent], ready: &[Ready]) -> usize
     ensures count { result ≡ min (length ready.now) (length events.old) }
     ensures written { events.new ≡ map event_of (take result ready.now) ++ drop result events.old }
 {

@@ -15,11 +15,8 @@ pub use poll_events::{EpollEvents, PollEvent, PollEventIter, PollEvents, PollEve
 pub use poll_token::PollToken;
 pub use refusal::errno_of;
 pub use vub_counter::{
-    EventConsumer, EventFd, EventFlag, EventNotifier, IntoIovec, MemSocket, Message, ScmSocket,
-    TimerFd, new_event_consumer_and_notifier,
+    EFD_CLOEXEC, EFD_NONBLOCK, EFD_SEMAPHORE, EventConsumer, EventFd, EventFlag, EventNotifier,
+    IntoIovec, MemSocket, Message, ScmSocket, TimerFd, new_event_consumer_and_notifier,
 };
 pub use vub_event::{Event, EventSet, Host, HostError, MemHost, Member, Ready, laws};
 pub use vub_util::errno;
-
-#[cfg(test)]
-mod tests;

@@ -1,14 +1,15 @@
-ghost use Rattle.std.specs.Prelude.{◌≡◌, ◌≤◌, [], ◌∷◌, length, take, map, IfOk, OnErr};
+ghost use Rattle.std.specs.Prelude.{◌≡◌, ◌≤◌, [], ◌∷◌, length, take, map, Some, IfOk, OnErr};
 ghost use Rattle.std.specs.Iterator.{YieldsFirstBy, item_count};
 ghost use Rattle.vub_base.specs.Told.{Told};
 ghost use Rattle.vub_event.specs.Counter.{has_bits};
 ghost use Rattle.vub_event.specs.Errors.{RefusesBy};
 ghost use Rattle.vub_event.specs.Faults.{CountsFaults};
 ghost use Rattle.vub_host.specs.Calls.{PollCall, event_of};
-ghost use Rattle.vub_host.specs.PollEvents.{meeting};
+ghost use Rattle.vub_host.specs.PollEvents.{is_met, meeting};
 
-use crate::epoll::{EpollEvent, write_events};
+use crate::epoll::EpollEvent;
 use crate::poll_token::PollToken;
+use arrayvec::ArrayVec;
 use std::alloc::Global;
 use std::fmt::{Debug, Formatter, Write};
 use std::marker::{Model, PhantomData};
@@ -18,19 +19,16 @@ use vub_event::{Host, HostError, Ready};
 /// Room for the events of one wait: at most 16. A contract sees the events that are in it.
 #[derive(Drop)]
 pub struct EpollEvents {
-    events: [EpollEvent; 16],
-    count: usize,
+    events: ArrayVec<EpollEvent, 16>,
 }
 
 impl Model for EpollEvents {
-    ghost use Rattle.std.specs.Prelude.{List, take, ◌≤◌};
+    ghost use Rattle.std.specs.Prelude.{List};
     ghost use Rattle.vub_host.specs.declared.epoll.EpollEvent.{EpollEvent};
 
     ghost Value = { List EpollEvent };
 
-    ghost view = { λ e. take e.count e.events };
-
-    ghost invariant = { λ e. e.count ≤ 16 };
+    ghost view = { λ e. e.events.items };
 }
 
 impl Debug for EpollEvents {
@@ -55,9 +53,18 @@ impl EpollEvents {
         ensures { result ≡ [] }
     {
         EpollEvents {
-            events: [EpollEvent::from_raw(0, 0); 16],
-            count: 0,
+            events: ArrayVec::new(),
         }
+    }
+
+    /// These events.
+    fn copied(events: &[EpollEvent]) -> EpollEvents
+        requires { length events.now ≤ 16 }
+        ensures { result ≡ events.now }
+    {
+        let mut held = ArrayVec::new();
+        held.try_extend_from_slice(events).unwrap();
+        EpollEvents { events: held }
     }
 
     /// The events, lent.
@@ -65,25 +72,19 @@ impl EpollEvents {
         ensures events { result.now ≡ self.now }
         ensures few { length result.now ≤ 16 }
     {
-        &self.events[..self.count]
+        self.events.as_slice()
     }
 
     /// A copy of the events, as those that a poll answers.
     pub(crate) fn polled<T: PollToken>(&self) -> PollEvents<T>
         ensures { result ≡ self.now }
     {
-        PollEvents {
-            events: EpollEvents {
-                events: self.events,
-                count: self.count,
-            },
-            tokens: PhantomData,
-        }
+        PollEvents::new(self.as_slice())
     }
 
     /// How many of the events are hung up.
     pub(crate) fn hangups(&self) -> u64
-        ensures { result ≡ length (meeting 0x10 self.now) }
+        ensures { result ≡ length (meeting (Some 0x10) self.now) }
     {
         let events = self.as_slice();
         events
@@ -96,7 +97,12 @@ impl EpollEvents {
     fn hold(&mut self, ready: &[Ready])
         ensures { self.new ≡ map event_of (take 16 ready.now) }
     {
-        self.count = write_events(&mut self.events, ready);
+        self.events.clear();
+        for place in 0..ready.len().min(16) {
+            let member = ready[place];
+            self.events
+                .push(EpollEvent::from_raw(member.events, member.token));
+        }
     }
 
     /// Holds the events of the first ready members of this list by object number, at most 16, and no other.
@@ -121,77 +127,107 @@ impl EpollEvents {
     }
 }
 
-/// An event that a wait answered, with the token of its member.
+/// An event that a wait answered, with the token of its member. A contract sees its bits and its data.
 #[derive(Debug, Drop)]
 pub struct PollEvent<T> {
     event: EpollEvent,
     tokens: PhantomData<T>,
 }
 
+impl<T> Model for PollEvent<T> {
+    ghost use Rattle.vub_host.specs.declared.epoll.EpollEvent.{EpollEvent};
+
+    ghost Value = { EpollEvent };
+
+    ghost view = { λ p. p.event };
+}
+
 impl<T: PollToken> PollEvent<T> {
     /// The token of the member.
     pub fn token(&self) -> T
-        ensures { result ≡ T.token_of self.now.event.raw }
+        ensures { result ≡ T.token_of self.now.raw }
     {
         T::from_raw_token(self.event.raw_data())
     }
 
     /// The bits that are reported.
     pub fn raw_events(&self) -> u32
-        ensures { result ≡ self.now.event.events }
+        ensures { result ≡ self.now.events }
     {
         self.event.events()
     }
 
     /// Whether there is something to read.
     pub fn readable(&self) -> bool
-        ensures { result ≡ has_bits self.now.event.events 1 }
+        ensures { result ≡ has_bits self.now.events 1 }
     {
         self.event.events() & 1 == 1
     }
 
     /// Whether a write is taken.
     pub fn writable(&self) -> bool
-        ensures { result ≡ has_bits self.now.event.events 4 }
+        ensures { result ≡ has_bits self.now.events 4 }
     {
         self.event.events() & 4 == 4
     }
 
     /// Whether it is hung up.
     pub fn hungup(&self) -> bool
-        ensures { result ≡ has_bits self.now.event.events 0x10 }
+        ensures { result ≡ has_bits self.now.events 0x10 }
     {
         self.event.events() & 0x10 == 0x10
     }
 
     /// Whether it has an error.
     pub fn has_error(&self) -> bool
-        ensures { result ≡ has_bits self.now.event.events 8 }
+        ensures { result ≡ has_bits self.now.events 8 }
     {
         self.event.events() & 8 == 8
     }
 }
 
-/// The events of a poll whose bits meet a mask, one after the other.
+/// The events of a poll that were asked for, one after the other. A contract sees those that are left.
 #[derive(Debug, Drop)]
 pub struct PollEventIter<'a, T> {
-    mask: u32,
+    // the bits of which an event has one, where not all events were asked for
+    mask: Option<u32>,
     events: &'a [EpollEvent],
     tokens: PhantomData<T>,
-    ghost few: { length events.now ≤ 16 },
+}
+
+impl<'a, T> Model for PollEventIter<'a, T> {
+    ghost use Rattle.std.specs.Prelude.{List, length, ◌≤◌};
+    ghost use Rattle.vub_host.specs.declared.epoll.EpollEvent.{EpollEvent};
+    ghost use Rattle.vub_host.specs.PollEvents.{meeting};
+
+    ghost Value = { List EpollEvent };
+
+    ghost view = { λ it. meeting it.mask it.events.now };
+
+    ghost invariant = { λ it. length it.events.now ≤ 16 };
+}
+
+/// Whether an event is one of those that a mask asks for.
+fn meets(mask: Option<u32>, event: EpollEvent) -> bool
+    ensures { result ≡ is_met mask event }
+{
+    match mask {
+        Some(bits) => event.events() & bits != 0,
+        None => true,
+    }
 }
 
 impl<'a, T: PollToken> Iterator for PollEventIter<'a, T> {
     type Item = PollEvent<T>;
 
-    ghost next_gives = { YieldsFirstBy (λ item. item.event) (λ it. meeting it.mask it.events.now) };
+    ghost next_gives = { YieldsFirstBy (λ item. item) (λ it. it) };
 
-    ghost remaining = { item_count (λ it. meeting it.mask it.events.now) };
+    ghost remaining = { item_count (λ it. it) };
 
     fn next(&mut self) -> Option<PollEvent<T>> {
         while let [event, rest @ ..] = self.events {
             self.events = rest;
-            if event.events() & self.mask != 0 {
+            if meets(self.mask, *event) {
                 let event = *event;
                 let tokens = PhantomData;
                 return Some(PollEvent { event, tokens });
@@ -223,13 +259,8 @@ impl<T: PollToken> PollEvents<T> {
         requires { length events.now ≤ 16 }
         ensures { result ≡ events.now }
     {
-        let mut held = [EpollEvent::from_raw(0, 0); 16];
-        held[..events.len()].copy_from_slice(events);
         PollEvents {
-            events: EpollEvents {
-                events: held,
-                count: events.len(),
-            },
+            events: EpollEvents::copied(events),
             tokens: PhantomData,
         }
     }
@@ -239,7 +270,7 @@ impl<T: PollToken> PollEvents<T> {
     /// # Errors
     /// Want of memory.
     pub fn to_owned(&self, alloc: Global) -> Result<PollEventsOwned<T>, OutOfMemory>
-        ensures { IfOk result (λ owned. owned.events.items ≡ self.now) }
+        ensures { IfOk result (λ owned. owned ≡ self.now) }
     {
         let events = Vec::from_slice(alloc, self.events.as_slice())?;
         Ok(PollEventsOwned {
@@ -248,13 +279,13 @@ impl<T: PollToken> PollEvents<T> {
         })
     }
 
-    /// All events that have a bit.
+    /// All events.
+    #[tactic(auto, using(crate::proofs::All::all_meet))]
     pub fn iter(&self) -> PollEventIter<'_, T>
-        ensures mask { result.mask ≡ 0xffffffff }
-        ensures events { result.events.now ≡ self.now }
+        ensures { result ≡ self.now }
     {
         PollEventIter {
-            mask: 0xffff_ffff,
+            mask: None,
             events: self.events.as_slice(),
             tokens: PhantomData,
         }
@@ -262,11 +293,10 @@ impl<T: PollToken> PollEvents<T> {
 
     /// The events with something to read.
     pub fn iter_readable(&self) -> PollEventIter<'_, T>
-        ensures mask { result.mask ≡ 1 }
-        ensures events { result.events.now ≡ self.now }
+        ensures { result ≡ meeting (Some 1) self.now }
     {
         PollEventIter {
-            mask: 1,
+            mask: Some(1),
             events: self.events.as_slice(),
             tokens: PhantomData,
         }
@@ -274,29 +304,38 @@ impl<T: PollToken> PollEvents<T> {
 
     /// The events that are hung up.
     pub fn iter_hungup(&self) -> PollEventIter<'_, T>
-        ensures mask { result.mask ≡ 0x10 }
-        ensures events { result.events.now ≡ self.now }
+        ensures { result ≡ meeting (Some 0x10) self.now }
     {
         PollEventIter {
-            mask: 0x10,
+            mask: Some(0x10),
             events: self.events.as_slice(),
             tokens: PhantomData,
         }
     }
 }
 
-/// The events that a wait answered, owned.
+/// The events that a wait answered, owned: at most 16. A contract sees them.
 #[derive(Debug, Drop)]
 pub struct PollEventsOwned<T> {
     events: Vec<EpollEvent>,
     tokens: PhantomData<T>,
-    ghost few: { length events.items ≤ 16 },
+}
+
+impl<T> Model for PollEventsOwned<T> {
+    ghost use Rattle.std.specs.Prelude.{List, length, ◌≤◌};
+    ghost use Rattle.vub_host.specs.declared.epoll.EpollEvent.{EpollEvent};
+
+    ghost Value = { List EpollEvent };
+
+    ghost view = { λ p. p.events.items };
+
+    ghost invariant = { λ p. length p.events.items ≤ 16 };
 }
 
 impl<T: PollToken> PollEventsOwned<T> {
     /// A copy of them that takes no memory.
     pub fn as_ref(&self) -> PollEvents<T>
-        ensures { result ≡ self.now.events.items }
+        ensures { result ≡ self.now }
     {
         PollEvents::new(self.events.as_slice())
     }

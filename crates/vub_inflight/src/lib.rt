@@ -31,8 +31,3 @@ pub use recovery::recover;
 pub use resumed::{Heads, Resumed};
 pub use ring::InflightRing;
 pub use stage::Stage;
-
-#[cfg(test)]
-mod device;
-#[cfg(test)]
-mod tests;

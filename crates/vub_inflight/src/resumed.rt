@@ -5,7 +5,7 @@ use vub_base::Listed;
 pub type Heads = Listed<u16>;
 
 /// A ring that goes on after a cut.
-#[derive(Drop)]
+#[derive(Debug, Drop)]
 pub struct Resumed {
     /// The ring, whose next entry is the first that was not taken.
     pub ring: InflightRing,

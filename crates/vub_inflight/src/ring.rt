@@ -20,7 +20,7 @@ use vub_mem::{DirtyLog, GuestMemory};
 use vub_queue::{Chain, PutFault, Queue, Took, put, take};
 
 /// A split virtqueue with its record. Only the record and guest memory outlast a cut.
-#[derive(Drop)]
+#[derive(Debug, Drop)]
 pub struct InflightRing {
     queue: Queue,
     last: u16,

@@ -14,6 +14,3 @@ pub use laws::{LogOp, bytes_hold_the_bits, notes_hold, pages_stand_since_harvest
 pub use notes::{HarvestNote, LoadNote, MarkNote, Notes};
 pub use plain::PlainLog;
 pub use shared::{LogSeat, MmapLogReg};
-
-#[cfg(test)]
-mod tests;

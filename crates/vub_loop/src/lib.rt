@@ -18,6 +18,3 @@ pub use finished::Finished;
 pub use handler::VringEpollHandler;
 pub use listening::{EpollHandle, ListenerFault};
 pub use turned::Turned;
-
-#[cfg(test)]
-mod tests;

@@ -37,6 +37,3 @@ pub use place::Place;
 pub use read_back::writes_are_read_back;
 pub use region::{AtomicBitmapMmap, Region};
 pub use vub_base::{Bytes, OutOfMemory};
-
-#[cfg(test)]
-mod tests;

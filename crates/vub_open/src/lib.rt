@@ -4,8 +4,6 @@
 #![tactic(auto)]
 
 mod constants;
-#[cfg(test)]
-mod fault_tests;
 mod faults;
 mod new_host;
 mod new_logs;

@@ -25,6 +25,3 @@ pub use refused::Refused;
 pub use request::{Part, Request};
 pub use service::Service;
 pub use used::Used;
-
-#[cfg(test)]
-mod tests;

@@ -43,8 +43,3 @@ pub use queue::Queue;
 pub use segment::{Segment, Segments, split};
 pub use taking::take;
 pub use took::Took;
-
-#[cfg(test)]
-mod echo;
-#[cfg(test)]
-mod tests;

@@ -10,7 +10,7 @@ use Rattle.vub_model.specs.Plans.{Plan}
 use Rattle.vub_model.specs.Shared.{Shared}
 use Rattle.vub_model.specs.Wiring.{Wiring}
 use Rattle.vub_plan.specs.Halves.{Begun, plan_at, dropped}
-use Rattle.vub_handler.specs.Acting.{RowOrFault}
+use Rattle.vub_loop.specs.Faults.{RowOrFault}
 use Rattle.vub_handler.specs.Player.{Player}
 use Rattle.vub_handler.specs.Playing.{IsPlayRow, IsPlayFault, host_answer}
 use Rattle.vub_requests.specs.Handling.{HandledStep, IsNext, LeadTo, AnswersLast, ArePlays}

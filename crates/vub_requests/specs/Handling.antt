@@ -18,7 +18,8 @@ use Rattle.vub_model.specs.Wiring.{Wiring}
 use Rattle.vub_vring.specs.PartsState.{PartsState, HasFailed, Tells, Lasts, IsUntouched}
 use Rattle.vub_plan.specs.Halves.{Begun, plan_at, IsPlanOf}
 use Rattle.vub_handler.specs.declared.played.Played.{Played}
-use Rattle.vub_handler.specs.Acting.{IsNamed, RowOrFault, HasRefused, IsCausedAnswer, called, CallsBy}
+use Rattle.vub_loop.specs.Faults.{RowOrFault}
+use Rattle.vub_handler.specs.Acting.{IsNamed, HasRefused, IsCausedAnswer, called, CallsBy}
 use Rattle.vub_handler.specs.Player.{Player}
 use Rattle.vub_handler.specs.Playing.{IsKnown, WaitsAt, IsPlayRow, IsPlayFault, IsCausedReply, IsDueFrom}
 use Rattle.vub_requests.specs.declared.unanswered.Unanswered.{Unanswered}

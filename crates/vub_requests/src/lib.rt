@@ -26,6 +26,3 @@ pub use session::{
 };
 pub use unanswered::Unanswered;
 pub use vub_handler::VhostUserHandler;
-
-#[cfg(test)]
-mod tests;

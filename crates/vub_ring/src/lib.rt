@@ -14,8 +14,3 @@ pub use pending::Pending;
 pub use play::{play_kick, play_pend, play_put, play_ring, play_table};
 pub use ring_state::RingState;
 pub use state::VringState;
-
-#[cfg(test)]
-mod booked;
-#[cfg(test)]
-mod tests;

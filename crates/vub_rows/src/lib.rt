@@ -13,6 +13,8 @@ mod faults;
 #[cfg(test)]
 mod hostile;
 #[cfg(test)]
+mod hostile_control;
+#[cfg(test)]
 mod kicks;
 #[cfg(test)]
 mod logs;
@@ -29,6 +31,12 @@ mod rows;
 #[cfg(test)]
 mod runs;
 #[cfg(test)]
+mod script;
+#[cfg(test)]
 mod session;
+#[cfg(test)]
+mod text;
+#[cfg(test)]
+mod trace;
 #[cfg(test)]
 mod workers;

@@ -43,6 +43,3 @@ pub use script::{Script, script_of};
 pub use service_form::ServiceForm;
 pub use whole::draft_from;
 pub use write_out::script_of_draft;
-
-#[cfg(test)]
-mod tests;

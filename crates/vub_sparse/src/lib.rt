@@ -19,6 +19,3 @@ pub use mem::MemFile;
 pub use seek::SeekHole;
 pub use sparse::SparseFile;
 pub use zeroes::{WriteZeroes, WriteZeroesAt};
-
-#[cfg(test)]
-mod tests;

@@ -20,6 +20,3 @@ pub use reader::ReadSource;
 pub use sink::{Sink, SinkError};
 pub use source::{Source, SourceError};
 pub use writer::WriteSink;
-
-#[cfg(test)]
-mod tests;

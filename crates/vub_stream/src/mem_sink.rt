@@ -6,7 +6,7 @@ use vub_base::OutOfMemory;
 
 /// A sink in memory with room for so many bytes, which tells what it took, and fails or takes nothing at the calls that
 /// it was told to. Its memory is taken when it is made.
-#[derive(Drop)]
+#[derive(Debug, Drop)]
 pub struct MemSink {
     bytes: Vec<u8>,
     room: usize,

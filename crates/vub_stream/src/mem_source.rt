@@ -5,7 +5,7 @@ use std::alloc::Global;
 use vub_base::Bytes;
 
 /// A source in memory, which tells its bytes and fails at the calls that it was told to fail at.
-#[derive(Drop)]
+#[derive(Debug, Drop)]
 pub struct MemSource {
     bytes: Vec<u8>,
     // how many bytes were read

@@ -8,6 +8,9 @@ use vub_base::OutOfMemory;
 use vub_model::{Stop, StopCause, VringEpollError, Why};
 use vub_queue::Damage;
 
+// The lines of a run are split at blanks, so each damage and each cause has one word there, which stays where the
+// sentence that `Display` writes for it is put better.
+
 fn name_of(damage: Damage) -> &'static str
     ensures { result.now ≡ damage_name damage }
 {

@@ -19,6 +19,3 @@ pub use lines::{Line, push_lines};
 pub use printed::print_run;
 pub use summary::print_summary;
 pub use turns::word_of;
-
-#[cfg(test)]
-mod tests;

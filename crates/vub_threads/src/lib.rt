@@ -10,6 +10,3 @@ mod std_task;
 pub use call_spawner::CallSpawner;
 pub use job::{Job, Spawner, Task};
 pub use std_task::{OfJob, StdTask, start_job};
-
-#[cfg(test)]
-mod tests;

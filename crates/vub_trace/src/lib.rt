@@ -10,6 +10,3 @@ mod words;
 
 pub use program::{Traced, trace_script};
 pub use text::print_trace;
-
-#[cfg(test)]
-mod tests;

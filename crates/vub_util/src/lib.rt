@@ -16,6 +16,3 @@ pub use vub_sparse::{
     FallocateMode, FileError, FileSetLen, FileSync, MemFile, PunchHole, SeekHole, SparseFile,
     WriteZeroes, WriteZeroesAt, fallocate,
 };
-
-#[cfg(test)]
-mod tests;

@@ -23,8 +23,3 @@ pub use vub_ring::{
     KickSaid, PartsError, PendOp, PendSaid, Pending, PutSaid, RingState, TableRing, TableRingSaid,
     VringState, play_kick, play_pend, play_put, play_ring, play_table,
 };
-
-#[cfg(test)]
-mod silent;
-#[cfg(test)]
-mod tests;

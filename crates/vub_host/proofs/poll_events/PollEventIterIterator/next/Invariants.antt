@@ -4,8 +4,9 @@ use Rattle.vub_host.proofs.poll_events.PollEventIterIterator.next.Given as goal
 
 abbrev pub invariant-loop-self : goal.invariant-loop-self
 invariant-loop-self g l =
-    (meeting l.self.mask l.self.events.now ≡ meeting l.initial.self.mask l.initial.self.events.now)
-    × (length l.self.events.now ≤ 16)
+    (meeting l.self-inside.mask l.self-inside.events.now
+    ≡ meeting l.initial.self-inside.mask l.initial.self-inside.events.now)
+    × (length l.self-inside.events.now ≤ 16)
 
 abbrev pub decreases-loop-self : goal.decreases-loop-self
-decreases-loop-self g l = length l.self.events.now
+decreases-loop-self g l = length l.self-inside.events.now

@@ -1,0 +1,17 @@
+pub use Rattle.vub_base.specs.Causes
+pub use Rattle.vub_base.specs.Told
+pub use Rattle.vub_core.specs.DeviceRun
+pub use Rattle.vub_core.specs.Meanings
+pub use Rattle.vub_core.specs.Outcome
+pub use Rattle.vub_model.specs.Constants
+pub use Rattle.vub_model.specs.Faithful
+pub use Rattle.vub_model.specs.Headline
+pub use Rattle.vub_model.specs.Opening
+pub use Rattle.vub_model.specs.RunOf
+pub use Rattle.vub_model.specs.RunRecords
+pub use Rattle.vub_model.specs.Service
+pub use Rattle.vub_model.specs.ValidSetup
+pub use Rattle.vub_open.specs.Asked
+pub use Rattle.vub_proto.specs.Answer
+pub use Rattle.vub_proto.specs.Device
+pub use Rattle.vub_proto.specs.Fixed

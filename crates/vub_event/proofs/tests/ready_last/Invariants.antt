@@ -1,4 +1,0 @@
-use Rattle.vub_event.proofs.tests.ready_last.Given as goal
-
-abbrev pub ghosts-ready_with : goal.ghosts-ready_with
-ghosts-ready_with a = record { name = a.blank.name; parts = a.blank.parts }

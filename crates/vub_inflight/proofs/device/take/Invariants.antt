@@ -1,4 +1,0 @@
-use Rattle.vub_inflight.proofs.device.take.Given as goal
-
-abbrev pub ghosts-take_with : goal.ghosts-take_with
-ghosts-take_with a = record { name = a.blank.name; parts = a.blank.parts }

@@ -1,0 +1,11 @@
+//! Tests of the calls of vub_loop, vub_requests and vub_core.
+#![tactic(auto)]
+
+#[cfg(test)]
+mod driving;
+#[cfg(test)]
+mod loops;
+#[cfg(test)]
+mod refused;
+#[cfg(test)]
+mod requests;

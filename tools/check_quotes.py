@@ -1,0 +1,14 @@
+#!/usr/bin/env python3
+"""Checks that each block of code in docs/LIBRARY.md stands in the sources of example_device, line for line."""
+import pathlib
+import re
+import sys
+
+top = pathlib.Path(__file__).resolve().parent.parent
+sources = [path.read_text() for path in sorted((top / "crates/example_device/src").glob("*.rt"))]
+blocks = re.findall(r"^```rust\n(.*?)^```$", (top / "docs/LIBRARY.md").read_text(), re.M | re.S)
+missing = [block for block in blocks if not any(block in source for source in sources)]
+for block in missing:
+    print("not in the sources:\n" + block)
+print(f"{len(blocks)} blocks, {len(missing)} differ")
+sys.exit(1 if missing or not blocks else 0)
