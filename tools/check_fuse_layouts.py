@@ -50,12 +50,13 @@ READ = [
     ("fuse_read_in", "size", "Directory", r"size_in body = u32_at body (\d+)", 4),
     ("fuse_write_in", "size", "Directory", r"size_in body = u32_at body (\d+)", 4),
 ]
-# whole sizes of what is read: the structure, and the definition's text with the size
+# whole sizes of what is read and written: the structure, and the constant that has it
 SIZES = [
-    ("fuse_in_header", "Directory", r"is_replied request = nat_le (\d+) "),
-    ("fuse_open_in", "Directory", r"open_of nodes n body = if nat_lt \(length body\) (\d+) "),
-    ("fuse_read_in", "Directory", r"read_of nodes n body = if nat_lt \(length body\) (\d+) "),
-    ("fuse_write_in", "Directory", r"data_in body = drop (\d+) body"),
+    ("fuse_in_header", "FUSE_IN_HEADER_SIZE"),
+    ("fuse_out_header", "FUSE_OUT_HEADER_SIZE"),
+    ("fuse_open_in", "FUSE_OPEN_IN_SIZE"),
+    ("fuse_read_in", "FUSE_READ_IN_SIZE"),
+    ("fuse_write_in", "FUSE_WRITE_IN_SIZE"),
 ]
 # numbers that the header has under the same name
 NUMBERS = ["FUSE_KERNEL_VERSION", "FUSE_ROOT_ID", "FUSE_LOOKUP", "FUSE_FORGET", "FUSE_GETATTR", "FUSE_OPEN", "FUSE_READ",
@@ -97,7 +98,7 @@ def questions():
     for struct, member, _, _, _ in READ:
         asked[f"{struct}.{member}"] = f"offsetof(struct {struct}, {member})"
         asked[f"{struct}.{member} size"] = f"sizeof(((struct {struct} *)0)->{member})"
-    for struct, _, _ in SIZES:
+    for struct, _ in SIZES:
         asked[f"{struct} size"] = f"sizeof(struct {struct})"
     for name in NUMBERS:
         asked[name] = name
@@ -139,9 +140,8 @@ def main():
         place = int(re.search(pattern, text_of("specs", spec + ".antt")).group(1))
         checks.append((f"{struct}.{member}: offset", place, found[f"{struct}.{member}"]))
         checks.append((f"{struct}.{member}: size", width, found[f"{struct}.{member} size"]))
-    for struct, spec, pattern in SIZES:
-        size = int(re.search(pattern, text_of("specs", spec + ".antt")).group(1))
-        checks.append((f"{struct}: size", size, found[f"{struct} size"]))
+    for struct, name in SIZES:
+        checks.append((f"{struct}: size", number_of(name), found[f"{struct} size"]))
     for name in NUMBERS + list(MODES):
         checks.append((name, number_of(name), found[name]))
     wrong = [check for check in checks if check[1] != check[2]]

@@ -67,7 +67,7 @@ def fits(schema, text):
     if found is None or not schema.is_valid(found[0]):
         return False
     service = found[0].get("service")
-    return not isinstance(service, dict) or are_names_sound(service["dir"])
+    return not isinstance(service, dict) or are_names_sound(service.get("dir", []))
 
 
 def is_taken(program, text):
