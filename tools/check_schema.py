@@ -78,9 +78,10 @@ def is_taken(program, text):
 
 
 def refused_inputs():
-    """The inputs of the table of refusals."""
+    """The inputs of the tables of refusals, each behind the line of the one before."""
     with open(os.path.join(TOP, "crates", "vub_rows", "src", "refusals.rt"), encoding="utf-8") as file:
-        return re.findall(r'r#"(\{.*?|\[.*?)"#', file.read(), re.S)
+        tables = re.findall(r'r#"(.*?)"#', file.read(), re.S)
+    return [it.rstrip("\n") for table in tables for it in re.split(r"^> .*\n", table, flags=re.M) if it.strip()]
 
 
 LEAVES = [0, 1, 255, 65535, 65536, 4294967295, 4294967296, 18446744073709551615, 18446744073709551616, -1, None, True,

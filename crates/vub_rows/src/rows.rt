@@ -21,16 +21,6 @@ pub const BASE: &str = r#""objects":[{"bytes":65536},{"event":0},{"event":0}],
 "schedule":[0,0,0,0],
 "rounds":12"#;
 
-/// A script and its text.
-#[derive(Drop)]
-pub struct Row {
-    /// What it shows.
-    pub name: &'static str,
-    /// Members that stand behind the base script's: of equal keys the last one counts.
-    pub changes: &'static str,
-    pub text: &'static str,
-}
-
 /// Plays this script without a fault.
 pub fn played(alloc: Global, script: String) -> Result<Played, OutOfMemory> {
     let words: Vec<String> = Vec::new(alloc);
@@ -42,18 +32,49 @@ pub fn played(alloc: Global, script: String) -> Result<Played, OutOfMemory> {
     )
 }
 
-fn script_of(alloc: Global, row: &Row) -> Result<String, OutOfMemory> {
-    let changes = row.changes;
+fn script_of(alloc: Global, changes: &str) -> Result<String, OutOfMemory> {
     let mut text = String::new(alloc);
     write!(text, "{{{BASE},{changes}}}")?;
     Ok(text)
 }
 
-/// Each script has a run and prints its text.
-pub fn expect_rows(rt: &impl Abort, alloc: Global, rows: &[Row]) -> Result<(), Fail> {
-    for row in rows {
-        let played = played(alloc, script_of(alloc, row)?)?;
-        expect(rt, row.name, &played, 0, row.text);
+/// The script that differs from the base script by these members has a run, and prints this text.
+fn expect_row(
+    rt: &impl Abort,
+    alloc: Global,
+    name: &str,
+    changes: &str,
+    text: &str,
+) -> Result<(), Fail> {
+    let played = played(alloc, script_of(alloc, changes)?)?;
+    expect(rt, name, &played, 0, text);
+    Ok(())
+}
+
+/// Each row of the table has a run and prints its text, and the table has so many rows. A row is a line `# NAME`, what it
+/// shows; lines with the members that stand behind the base script's, of which of equal keys the last one counts; and a
+/// line `> LINE` for each line of its text.
+pub fn expect_rows(rt: &impl Abort, alloc: Global, table: &str, count: u64) -> Result<(), Fail> {
+    let mut begun = 0u64;
+    let mut name = "";
+    let mut changes = String::new(alloc);
+    let mut text = String::new(alloc);
+    for line in table.lines() {
+        if let Some(next) = line.strip_prefix("# ") {
+            if begun > 0 {
+                expect_row(rt, alloc, name, changes.as_str(), text.as_str())?;
+            }
+            begun = begun.saturating_add(1);
+            name = next;
+            changes = String::new(alloc);
+            text = String::new(alloc);
+        } else if let Some(said) = line.strip_prefix("> ") {
+            write!(text, "{said}\n")?;
+        } else {
+            write!(changes, "{line}")?;
+        }
     }
+    expect_row(rt, alloc, name, changes.as_str(), text.as_str())?;
+    assert_eq!(rt; begun, count);
     Ok(())
 }

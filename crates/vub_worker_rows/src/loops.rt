@@ -456,7 +456,10 @@ fn a_host_that_fails_stops_the_worker(rt: HostRuntime) -> Result<(), Fail> {
     let alloc = rt.alloc();
     for (call, token, turns, error) in FAULTS.iter() {
         let mut store = store_over(alloc, failing_host(alloc, *call, *token)?)?;
-        store.rings[0].set_kick(Some(0));
+        match store.rings.first_mut() {
+            Some(ring) => ring.set_kick(Some(0)),
+            None => return Err(Fail::new("no ring")),
+        }
         let worker = after_over_store(&rt, alloc, &mut store, turns)?;
         assert_eq!(rt; stop_of(&worker), Some(StopCause::Fault(*error)));
         assert_eq!(rt; store.host.faults(), 1);
