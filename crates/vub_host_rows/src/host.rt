@@ -96,7 +96,7 @@ fn all_events_are_gone_over(rt: HostRuntime) {
         EpollEvent::from_raw(0x10, 3),
     ];
     let polled: PollEvents<u32> = PollEvents::new(&events);
-    assert_eq!(rt; polled.iter().map(|event| event.token()).sum::<u32>(), 6);
+    assert_eq!(rt; polled.iter().count(), 3);
     assert_eq!(rt; polled.iter_readable().count(), 1);
     assert_eq!(rt; polled.iter_hungup().count(), 1);
 }
