@@ -56,16 +56,16 @@ fn expect_row(
 /// line `> LINE` for each line of its text.
 pub fn expect_rows(rt: &impl Abort, alloc: Global, table: &str, count: u64) -> Result<(), Fail> {
     let mut begun = 0u64;
-    let mut name = "";
+    let mut name = String::new(alloc);
     let mut changes = String::new(alloc);
     let mut text = String::new(alloc);
     for line in table.lines() {
         if let Some(next) = line.strip_prefix("# ") {
             if begun > 0 {
-                expect_row(rt, alloc, name, changes.as_str(), text.as_str())?;
+                expect_row(rt, alloc, name.as_str(), changes.as_str(), text.as_str())?;
             }
             begun = begun.saturating_add(1);
-            name = next;
+            name = String::from_str(alloc, next)?;
             changes = String::new(alloc);
             text = String::new(alloc);
         } else if let Some(said) = line.strip_prefix("> ") {
@@ -74,7 +74,7 @@ pub fn expect_rows(rt: &impl Abort, alloc: Global, table: &str, count: u64) -> R
             write!(changes, "{line}")?;
         }
     }
-    expect_row(rt, alloc, name, changes.as_str(), text.as_str())?;
+    expect_row(rt, alloc, name.as_str(), changes.as_str(), text.as_str())?;
     assert_eq!(rt; begun, count);
     Ok(())
 }

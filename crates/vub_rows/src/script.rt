@@ -15,11 +15,15 @@ enum Verdict {
 }
 
 fn verdict_on(alloc: Global, text: &[u8]) -> Result<Verdict, Fail> {
-    match draft_of_bytes(alloc, text) {
-        Ok(draft) if is_within_limits(&draft) => Ok(Verdict::Within),
-        Ok(_) => Ok(Verdict::Past),
-        Err(Refusal::NoScript(_)) => Ok(Verdict::None),
-        Err(Refusal::OutOfMemory) => Err(OutOfMemory.into()),
+    let draft = match draft_of_bytes(alloc, text) {
+        Ok(draft) => draft,
+        Err(Refusal::NoScript(_fault)) => return Ok(Verdict::None),
+        Err(Refusal::OutOfMemory) => return Err(OutOfMemory.into()),
+    };
+    if is_within_limits(&draft) {
+        Ok(Verdict::Within)
+    } else {
+        Ok(Verdict::Past)
     }
 }
 
