@@ -58,6 +58,10 @@ DiffersAs given calls (error.Mismatch used served) =
     (ordered : List Spent) × IsInOrder given ordered × DifferFirst ordered calls used served
 DiffersAs given calls error.OutOfMemory = Unit {0}
 
+-- there are calls from which these records differ so
+abbrev pub DiffersFromSome : List Spent → CompareError → Type 0
+DiffersFromSome spent e = (calls : List Served) × DiffersAs spent calls e
+
 -- There is a history of the service, in which each reply is that of the value then, and these records are its calls,
 -- one for one. The totals count the records of entries that are not held, and the calls.
 pub record IsCompared {V : Type 0} (m : Meaning V) (spent : List Spent) (t : Totals) : Type 0 where

@@ -1,4 +1,3 @@
 pub mod Comparing
 pub mod Replays
 pub mod Rings
-pub mod Vrings

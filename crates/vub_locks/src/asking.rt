@@ -3,7 +3,7 @@
 ghost use Rattle.std.specs.Prelude.{◌≡◌, ◌↔◌, ◌⊎◌, ◌+◌, ◌≤◌, Err, IfSome, IfOk, IfErr, IsErrOf, IsTrue};
 ghost use Rattle.vub_model.specs.Service.{meaning};
 ghost use Rattle.vub_vring.specs.Calls.{IsSaid, takes_memory};
-ghost use Rattle.vub_locks.specs.Comparing.{IsCompared};
+ghost use Rattle.vub_locks.specs.Comparing.{DiffersFromSome, IsCompared};
 
 use crate::comparing::{CompareError, Totals, compare};
 use crate::gate::Gate;
@@ -158,7 +158,8 @@ impl<D: VhostUserBackendMut, V: Service, G: Gate + Drop> SharedParts<D, V, G> {
         alloc: Global,
         spent: Vec<Spent>,
     ) -> Result<Totals, CompareError>
-        ensures { IfOk result (IsCompared (meaning V.reply_of V.after) spent.items) }
+        ensures same { IfOk result (IsCompared (meaning V.reply_of V.after) spent.items) }
+        ensures differ { IfErr result (DiffersFromSome spent.items) }
     {
         let book = self.service.lock(rt);
         compare(alloc, &*book, spent)

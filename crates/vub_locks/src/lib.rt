@@ -13,7 +13,6 @@ mod ring_book;
 mod service_book;
 mod shared;
 mod shared_host;
-mod vring;
 
 pub use comparing::{CompareError, Totals, compare};
 pub use gate::{Gate, NoGate};
@@ -24,4 +23,3 @@ pub use ring_book::RingBook;
 pub use service_book::ServiceBook;
 pub use shared::{OpenParts, SharedParts};
 pub use shared_host::SharedHost;
-pub use vring::{MutexRing, RwRing, RwRingMut, VringMutex, VringRwLock, VringT};

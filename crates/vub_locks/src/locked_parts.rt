@@ -116,6 +116,24 @@ impl<R: Wait + Copy, D: VhostUserBackendMut, V: Service, G: Gate + Drop> LockedP
         Ok(())
     }
 
+    /// Whether an event has this number.
+    pub fn has_event(&self, object: u32) -> bool {
+        let quiet = self.shared.host.host.lock(&self.rt);
+        quiet.host.event(object).is_some()
+    }
+
+    /// Whether a content has this number.
+    pub fn has_content(&self, object: u32) -> bool {
+        let memory = self.shared.memory.lock(&self.rt);
+        memory.has_object(object)
+    }
+
+    /// Whether a log has this number.
+    pub fn has_log(&self, object: u32) -> bool {
+        let memory = self.shared.memory.lock(&self.rt);
+        memory.has_log(object)
+    }
+
     /// The party's records of the entries that it used, in the order of their uses.
     pub fn into_spent(self) -> Vec<Spent> {
         let LockedParts { spent, .. } = self;

@@ -5,7 +5,7 @@ ghost use Rattle.std.specs.Int.{is_power_of_two};
 ghost use Rattle.vub_event.specs.Errors.{RefusesBy};
 ghost use Rattle.vub_event.specs.Faults.{CountsFaults};
 ghost use Rattle.vub_queue.specs.Settings.{info_answer};
-ghost use Rattle.vub_locks.specs.Vrings.{IsOutside, IsUseError};
+ghost use Rattle.vub_vrings.specs.Vrings.{IsOutside, IsUseError};
 
 use std::sync::{Mutex, MutexGuard, RwLock, RwLockReadGuard, RwLockWriteGuard, Wait};
 use vub_event::{Host, HostError};
