@@ -1,8 +1,8 @@
 #!/usr/bin/env python3
 """Compares the numbers and texts of crates/vub_util with this machine's headers and C library.
 
-All that it compares is read from the crate and its tests (crates/vub_host_rows/src/util.rt): the constants of src/ioctl.rt; the tests' calls on ioctl numbers,
-each with the number that its `assert_eq!` expects; the error texts of specs/Errno.antt, which src/errno.rt must repeat
+All that it compares is read from the crate and its tests (crates/vub_host_rows/src/util.rt): the constants of src/ioctl.rt; the tests' table of ioctl numbers,
+each a call with the number that it is to answer; the error texts of specs/Errno.antt, which src/errno.rt must repeat
 and each of whose numbers must be one of <errno.h>; and the printed errors that the tests expect. The other side is
 what a small C program prints: <asm-generic/ioctl.h>'s own macros at the same arguments, and strerror. A number that
 has no text in the table is printed as unknown, whatever strerror says of it. A difference ends it with status 1.
@@ -25,6 +25,15 @@ MACROS = {
     "ioctl_iowr_nr": "_IOWR({0}, {1}, char[{2}])",
 }
 
+# the function that each case of the tests' table calls
+CALLS = {
+    "Of": "ioctl_expr",
+    "Neither": "ioctl_io_nr",
+    "Read": "ioctl_ior_nr",
+    "Write": "ioctl_iow_nr",
+    "Both": "ioctl_iowr_nr",
+}
+
 
 def text_of(*parts):
     with open(os.path.join(TOP, *parts), encoding="utf-8") as file:
@@ -39,10 +48,9 @@ def constants():
 
 def expected_ioctls(known):
     """What the tests expect: the function, its arguments as numbers, and the number that it is to answer."""
-    tested = re.findall(r"assert_eq!\(rt;\s*ioctl::(\w+)\(([^()]*)\),\s*(0x[\da-f_]+|[\d_]+)\s*\);",
-                        text_of("..", "vub_host_rows", "src", "util.rt"))
-    return [(function, [value_of(word, known) for word in arguments.split(",")], int(number.replace("_", ""), 0))
-            for function, arguments, number in tested]
+    tested = re.findall(r"\(Ioctl::(\w+)\(([^()]*)\), (0x[\da-f_]+|[\d_]+)\)", text_of("..", "vub_host_rows", "src", "util.rt"))
+    return [(CALLS[call], [value_of(word, known) for word in arguments.split(",")], int(number.replace("_", ""), 0))
+            for call, arguments, number in tested]
 
 
 def value_of(sum_of_words, known):

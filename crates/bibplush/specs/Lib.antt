@@ -3,6 +3,7 @@ pub use Rattle.vub_base.specs.Told
 pub use Rattle.vub_core.specs.DeviceRun
 pub use Rattle.vub_core.specs.Meanings
 pub use Rattle.vub_core.specs.Outcome
+pub use Rattle.vub_core.specs.Replies
 pub use Rattle.vub_model.specs.Constants
 pub use Rattle.vub_model.specs.Faithful
 pub use Rattle.vub_model.specs.Headline

@@ -120,6 +120,7 @@ module _ {V D : Type 0} (m : Meaning V) (t : Telling D) (setup : Setup) (old mid
         least = tt;
         made = subst M (sym own) step.made;
         recorded_is = recorded ∙ ap (λ cs. old.calls.items ++ map device_call cs) (sym own);
+        fits = tt;
       }
 
   -- a pass of control
@@ -147,4 +148,5 @@ module _ {V D : Type 0} (m : Meaning V) (t : Telling D) (setup : Setup) (old mid
         least = tt;
         made = still.made;
         recorded_is = recorded ∙ sym (append-nil old.calls.items);
+        fits = tt;
       }

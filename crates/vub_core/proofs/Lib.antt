@@ -13,6 +13,7 @@ pub mod OpenedWorkers
 pub mod Outcomes
 pub mod Plans
 pub mod Readying
+pub mod Replies
 pub mod Rests
 pub mod Runs
 pub mod Staying

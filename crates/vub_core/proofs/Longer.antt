@@ -13,6 +13,7 @@ use Rattle.vub_core.specs.DeviceRun.{DeviceState, HasMade}
 use Rattle.vub_core.specs.Played.{HasPlayed, WasCutShort}
 use Rattle.vub_core.specs.Turned.{HasTurned}
 use Rattle.vub_core.proofs.Made.{made-append, made-same}
+use Rattle.vub_core.proofs.Replies.{fits-more}
 
 run-more : {V : Type 0} (m : Meaning V) (turns : List ℕ) (plays : List Play) (w z end : World V) (turn : ℕ) (l : Play) → IsRun m turns plays w z → Turn m z (party_of turn) l end → IsRun m (turns ++ turn ∷ []) (plays ++ l ∷ []) w end
 run-more {V} m [] [] w z end turn l run t = (end, (let P : World V → Type 0 = λ x. Turn m x (party_of turn) l end in subst P run t), refl)
@@ -42,7 +43,7 @@ calls-more {V} m (turn' ∷ turns) (l' ∷ plays) w z turn l run =
 
 module _ {V D : Type 0} (m : Meaning V) (t : Telling D) (schedule : List ℕ) where
   pub played-none : (w : World V) (labels : List Label) (recorded : List DeviceCall) (d : DeviceState D) → labels ≡ [] → recorded ≡ [] → HasPlayed m t [] labels recorded w w d d
-  played-none w labels recorded d is none = record { plays = []; labels_are = is; recorded_are = none; is_run = refl; least = tt; made = made-same t d d refl }
+  played-none w labels recorded d is none = record { plays = []; labels_are = is; recorded_are = none; is_run = refl; least = tt; made = made-same t d d refl; fits = tt }
 
   pub played-more : (labels next-labels : List Label) (recorded next-recorded : List DeviceCall) (w z end : World V) (d e f : DeviceState D) (index none : ℕ) (label : Label) → index < length schedule → HasPlayed m t (take index schedule) labels recorded w z d e → HasTurned m t (party_of (get_or schedule index none)) label z end recorded next-recorded e f → next-labels ≡ labels ++ label ∷ [] → HasPlayed m t (take (index + 1) schedule) next-labels next-recorded w end d f
   played-more labels next-labels recorded next-recorded w z end d e f index none label within so its push =
@@ -64,6 +65,7 @@ module _ {V D : Type 0} (m : Meaning V) (t : Telling D) (schedule : List ℕ) wh
         is_run = run-more m front so.plays w z end party l so.is_run its.turn;
         least = least-more m front so.plays w z party l so.is_run so.least its.least;
         made = subst C (sym longer) (made-append t (calls m front so.plays w) (call_at z (party_of party) l) d e f so.made its.made);
+        fits = fits-more m front so.plays w z party l so.is_run so.fits its.fits;
       })
 
   pub played-all : (labels : List Label) (recorded : List DeviceCall) (w z : World V) (d e : DeviceState D) (index : ℕ) → length schedule ≤ index → HasPlayed m t (take index schedule) labels recorded w z d e → HasPlayed m t schedule labels recorded w z d e
@@ -82,6 +84,7 @@ module _ {V D : Type 0} (m : Meaning V) (t : Telling D) (schedule : List ℕ) wh
         is_run = so.is_run;
         least = so.least;
         made = subst C (append-nil (calls m front so.plays w)) (made-append t (calls m front so.plays w) [] d e f so.made made);
+        fits = so.fits;
       } in
       let N : ℕ → Type 0 = λ n. HasPlayed m t (take n schedule) labels recorded w z d f in
       subst P (sym same) (record {

@@ -27,7 +27,9 @@ use Rattle.vub_laws.proofs.Orderly.{laws-of-setup}
 use Rattle.vub_core.specs.DeviceRun.{DeviceState, HasMade}
 use Rattle.vub_core.specs.Outcome.{IsPlayed, IsCutShort, IsRefused}
 use Rattle.vub_core.specs.Played.{HasPlayed, WasCutShort}
+use Rattle.vub_core.specs.Replies.{CallsFit}
 use Rattle.vub_core.proofs.Made.{made-same}
+use Rattle.vub_core.proofs.Replies.{replies-fit}
 use Rattle.vub_open.specs.Refused.{IsRefusal}
 
 -- the opening has the service that it is given
@@ -62,17 +64,20 @@ module _ {V D : Type 0} (m : Meaning V) (t : Telling D) (k : Constants) (setup :
   all-played labels recorded closing end run valid short so value shows =
       let made = calls m schedule so.plays (opening k setup v) in
       let S : List Label → Type 0 = λ ls. Shows setup.objects ls made closing run in
+      let shown = shows made so.recorded_are in
+      let faithful = headline-of-setup m k setup v schedule so.plays closing short valid so.is_run in
       record {
         valid = valid;
         plays = so.plays;
         closing = closing;
         is_run = so.is_run;
         least = so.least;
-        shows = subst S so.labels_are (shows made so.recorded_are);
+        shows = subst S so.labels_are shown;
         value = value;
         made = so.made;
-        faithful = headline-of-setup m k setup v schedule so.plays closing short valid so.is_run;
+        faithful = faithful;
         orderly = laws-of-setup m k setup v schedule so.plays closing short valid so.is_run;
+        fits = replies-fit m schedule so.plays (opening k setup v) closing run faithful.served shown.takes_are shown.uses_are so.fits;
       }
 
   -- want of memory before the first turn
@@ -86,6 +91,7 @@ module _ {V D : Type 0} (m : Meaning V) (t : Telling D) (k : Constants) (setup :
     least = tt;
     value = same ∙ sym opened;
     made = made-same t d e device;
+    fits = tt;
   }
 
   -- want of memory at a turn
@@ -101,6 +107,7 @@ module _ {V D : Type 0} (m : Meaning V) (t : Telling D) (k : Constants) (setup :
         least = so.front.least;
         value = so.value;
         made = so.front.made;
+        fits = so.front.fits;
       })
 
   -- want of memory behind the last turn
@@ -112,6 +119,7 @@ module _ {V D : Type 0} (m : Meaning V) (t : Telling D) (k : Constants) (setup :
       let R : List ℕ → Type 0 = λ ts. IsRun m ts so.plays (opening k setup v) closing in
       let L : List ℕ → Type 0 = λ ts. PollsLeast m ts so.plays (opening k setup v) in
       let C : List ℕ → Type 0 = λ ts. HasMade t d e (calls m ts so.plays (opening k setup v)) in
+      let F : List ℕ → Type 0 = λ ts. CallsFit m ts so.plays (opening k setup v) in
       record {
         valid = λ some. valid;
         plays = so.plays;
@@ -121,6 +129,7 @@ module _ {V D : Type 0} (m : Meaning V) (t : Telling D) (k : Constants) (setup :
         least = subst L (sym whole) so.least;
         value = value;
         made = subst C (sym whole) so.made;
+        fits = subst F (sym whole) so.fits;
       }
 
   -- a refusal at the opening

@@ -11,6 +11,7 @@ pub mod Places
 pub mod Played
 pub mod Ready
 pub mod Recorded
+pub mod Replies
 pub mod Rest
 pub mod Session
 pub mod Spans

@@ -16,12 +16,13 @@ use Rattle.vub_model.specs.Service.{Meaning}
 use Rattle.vub_model.specs.ValidSetup.{IsValid, fault_of}
 use Rattle.vub_model.specs.World.{World}
 use Rattle.vub_core.specs.DeviceRun.{DeviceState, HasMade}
+use Rattle.vub_core.specs.Replies.{CallsFit, RepliesFit}
 
 -- The headline. The run handed back shows the labels of plays that are a run of the machine of party turns for this
 -- schedule, from the opening of the set-up: each turn passes only where its party has no step, and each poll takes the
 -- ready member with the least number. The run is faithful: what that says of entries, uses, writes, kicks and answers
--- stands there. It is orderly: its work drains, and a queue that nothing disturbs is served as alone. Service and
--- device are as their calls in this run left them.
+-- stands there. It is orderly: its work drains, and a queue that nothing disturbs is served as alone. Each reply fits
+-- the room of its entry. Service and device are as their calls in this run left them.
 pub record IsPlayed {V D : Type 0} (m : Meaning V) (t : Telling D) (constants : Constants) (setup : Setup)
     (schedule : List ℕ) (v end : V) (before now : DeviceState D) (run : Run) : Type 0 where
   pub valid : IsValid constants setup
@@ -35,10 +36,12 @@ pub record IsPlayed {V D : Type 0} (m : Meaning V) (t : Telling D) (constants : 
   pub made : HasMade t before now (calls m schedule plays (opening constants setup v))
   pub faithful : IsFaithful m constants setup v schedule plays closing
   pub orderly : IsOrderly m constants setup v schedule plays closing
+  pub fits : RepliesFit m schedule plays (opening constants setup v) run
 
 -- Memory was refused after this many turns. They are a run for the front of the schedule, from the opening of the
--- set-up, each of whose polls takes the ready member with the least number, as in the run of the whole schedule; and
--- service and device are as their calls in these turns left them. A turn was finished only of a valid set-up.
+-- set-up, each of whose polls takes the ready member with the least number, as in the run of the whole schedule; each
+-- reply in it fits the room of its entry; and service and device are as their calls in these turns left them. A turn was
+-- finished only of a valid set-up.
 pub record IsCutShort {V D : Type 0} (m : Meaning V) (t : Telling D) (constants : Constants) (setup : Setup)
     (schedule : List ℕ) (v end : V) (before now : DeviceState D) (done : ℕ) : Type 0 where
   pub valid : 0 < done → IsValid constants setup
@@ -49,6 +52,7 @@ pub record IsCutShort {V D : Type 0} (m : Meaning V) (t : Telling D) (constants 
   pub least : PollsLeast m (take done schedule) plays (opening constants setup v)
   pub value : end ≡ closing.shared.service
   pub made : HasMade t before now (calls m (take done schedule) plays (opening constants setup v))
+  pub fits : CallsFit m (take done schedule) plays (opening constants setup v)
 
 -- why there is no run: the first test that the set-up fails, and then neither service nor device was asked for more
 -- than the device's constants; or want of memory

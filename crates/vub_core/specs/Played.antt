@@ -8,9 +8,10 @@ use Rattle.vub_model.specs.RunOf.{IsRun, PollsLeast}
 use Rattle.vub_model.specs.Service.{Meaning}
 use Rattle.vub_model.specs.World.{World}
 use Rattle.vub_core.specs.DeviceRun.{DeviceState, HasMade}
+use Rattle.vub_core.specs.Replies.{CallsFit}
 
 -- There are plays with these labels that are a run, each of whose polls takes the ready member with the least number,
--- and whose calls were made of the device and are recorded so.
+-- each of whose replies fits, and whose calls were made of the device and are recorded so.
 pub record HasPlayed {V D : Type 0} (m : Meaning V) (t : Telling D) (schedule : List ℕ) (labels : List Label)
     (recorded : List DeviceCall) (old new : World V) (before now : DeviceState D) : Type 0 where
   pub plays : List Play
@@ -19,6 +20,7 @@ pub record HasPlayed {V D : Type 0} (m : Meaning V) (t : Telling D) (schedule : 
   pub is_run : IsRun m schedule plays old new
   pub least : PollsLeast m schedule plays old
   pub made : HasMade t before now (calls m schedule plays old)
+  pub fits : CallsFit m schedule plays old
 
 -- the labels are those of a run of the front of the schedule, and service and device are as it left them
 pub record WasCutShort {V D : Type 0} (m : Meaning V) (t : Telling D) (schedule : List ℕ) (labels : List Label)

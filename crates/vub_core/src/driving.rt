@@ -77,8 +77,9 @@ fn play_opened<D: VhostUserBackendMut, V: Service>(
 ///
 /// The run is one of the machine of party turns, from the opening of the set-up. Each queue took its entries once and
 /// in order, numbered from its base, and used each with the service's reply to the bytes read at taking, but for at
-/// most one in flight or held; each page that a worker wrote in a region with a log is marked in it at the end, or was
-/// handed out by a harvest since; and at rest a calm running queue has no entry left.
+/// most one in flight or held; no reply is longer than the room that was read then; each page that a worker wrote in a
+/// region with a log is marked in it at the end, or was handed out by a harvest since; and at rest a calm running queue
+/// has no entry left.
 ///
 /// # Errors
 /// The first test of `SetupFault` that the set-up fails, and then the service was not asked, nor the device for more

@@ -1,7 +1,9 @@
 //! One turn of the guest, and of a worker.
 ghost use Rattle.std.specs.Prelude.{◌≡◌, ◌++◌, [], length, map, drop, IfOk, OnOk, OnErr};
+ghost use Rattle.std.specs.List.{AllByRecursion};
 ghost use Rattle.vub_model.specs.declared.party.Party.{Party};
 ghost use Rattle.vub_model.specs.DeviceCalls.{heard_in, call_at, device_call};
+ghost use Rattle.vub_model.specs.Headline.{asked_at};
 ghost use Rattle.vub_model.specs.RunOf.{Turn, IsLeast, IsLeastPoll};
 ghost use Rattle.vub_vring.specs.Store.{shared_of, from_option};
 ghost use Rattle.vub_loop.specs.Finished.{finished_by};
@@ -12,6 +14,7 @@ ghost use Rattle.vub_core.specs.Machine.{world_of};
 ghost use Rattle.vub_core.specs.Meanings.{meaning_by};
 ghost use Rattle.vub_core.specs.Ready.{NextMayAct};
 ghost use Rattle.vub_core.specs.Recorded.{HasRoom};
+ghost use Rattle.vub_core.specs.Replies.{FitsItsRoom};
 ghost use Rattle.vub_core.specs.Stepped.{play_of, IsTurn, ForHandler};
 ghost use Rattle.vub_core.specs.Whole.{IsWhole};
 
@@ -139,6 +142,8 @@ pub(crate) fn worker_turn<D: VhostUserBackendMut, V: Service>(
         (call_at (world_of setup.now machine.old service.old) (Party.Worker worker) l)) }
     ensures calls { IfOk result (λ l. machine.new.calls.items ≡ machine.old.calls.items
         ++ map device_call (call_at (world_of setup.now machine.old service.old) (Party.Worker worker) l)) }
+    ensures fits { IfOk result (λ l. AllByRecursion FitsItsRoom
+        (asked_at (meaning_by V.Service) (world_of setup.now machine.old service.old) (Party.Worker worker) l)) }
     ensures whole { OnOk result (IsWhole machine.new) }
     ensures count { OnOk result (length machine.new.workers.items ≡ length machine.old.workers.items) }
     ensures service { OnErr result (service.new ≡ service.old) }

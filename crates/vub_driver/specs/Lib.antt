@@ -6,3 +6,4 @@ pub mod Calls
 pub mod Machine
 pub mod Law
 pub mod Stores
+pub mod Writings

@@ -1,8 +1,10 @@
 ghost use Rattle.std.specs.Prelude.{◌≡◌, ◌⊎◌, ◌-◌, ◌^◌, ◌<◌, ◌≤◌, Ok, Err, Some, length, IfOk, IfErr, IfSome};
 ghost use Rattle.vub_driver.specs.Calls.{Submits, collect_answer, is_too_large, needs_signal, new_state};
 ghost use Rattle.vub_driver.specs.Calls.{state_collected};
-ghost use Rattle.vub_driver.specs.Calls.{submit_covers};
+ghost use Rattle.vub_driver.specs.Calls.{submit_covers, submit_guest};
 ghost use Rattle.vub_driver.specs.Layouts.{new_fault};
+ghost use Rattle.vub_driver.specs.Writings.{all_written, writes_of};
+ghost use Rattle.vub_mem.specs.Memory.{Guest};
 
 use crate::checks::fault_of;
 use crate::done::Done;
@@ -12,9 +14,10 @@ use crate::places::{
     avail_event_at, avail_index_at, avail_slot_at, descriptors_at, index_of, place, request_at,
     used_element_at, used_index_at,
 };
-use crate::writing::write_request;
+use crate::writing::{Submission, write_request, writes_of};
 use std::alloc::Global;
 use std::marker::Model;
+use vub_base::OutOfMemory;
 use vub_mem::GuestMemory;
 
 /// The driver's side of a ring. A contract sees its layout, how many requests were submitted and replies collected, the
@@ -152,6 +155,28 @@ impl Driver {
         self.submitted += 1;
         self.tested = index_of(self.submitted);
         Ok(signal)
+    }
+
+    /// What a submit of this request writes into guest memory, for a guest that makes the writes itself, one after the
+    /// other in the order of the fields. Fewer than 2^64 - 1 requests were submitted, and the request has fewer than
+    /// 2^32 bytes.
+    ///
+    /// # Errors
+    /// Want of memory.
+    #[tactic(auto, unfolding(crate::specs::Calls::submit_guest))]
+    pub fn writes(
+        &self,
+        alloc: Global,
+        request: &[u8],
+        room: u32,
+    ) -> Result<Submission, OutOfMemory>
+        requires number { self.now.submitted < 2 ^ 64 - 1 }
+        requires short { length request.now < 2 ^ 32 }
+        ensures value { IfOk result (λ w. w ≡ writes_of self.now.layout self.now.submitted request.now room) }
+        ensures made { IfOk result (λ w. (g : Guest) →
+            submit_guest self.now.layout g self.now.submitted request.now room ≡ all_written g w) }
+    {
+        writes_of(alloc, &self.layout, self.submitted, request, room)
     }
 
     /// Takes the reply to the oldest outstanding request, if there is one; none exactly where the used index is the

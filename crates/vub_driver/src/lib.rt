@@ -21,3 +21,4 @@ pub use driver::Driver;
 pub use error::DriverError;
 pub use laws::{driver_understands, submits_are_stores};
 pub use layout::Layout;
+pub use writing::{Submission, Write};

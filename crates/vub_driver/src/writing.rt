@@ -1,13 +1,37 @@
 //! The writes of a request.
-ghost use Rattle.std.specs.Prelude.{◌≡◌, ◌-◌, ◌^◌, ◌<◌, true, length};
+ghost use Rattle.std.specs.Prelude.{◌≡◌, ◌-◌, ◌^◌, ◌<◌, true, length, IfOk};
 ghost use Rattle.vub_mem.specs.Place.{covers};
 ghost use Rattle.vub_driver.specs.Calls.{chain_bytes, submit_guest};
 ghost use Rattle.vub_driver.specs.Places.{avail_index_at, avail_slot_at, descriptors_at, request_at};
 ghost use Rattle.vub_driver.specs.View.{IsFit};
+ghost use Rattle.vub_driver.specs.Writings.{writes_of};
 
 use crate::layout::Layout;
 use crate::places::{avail_index_at, avail_slot_at, descriptors_at, index_of, place, request_at};
+use std::alloc::Global;
+use vub_base::{Bytes, OutOfMemory};
 use vub_mem::GuestMemory;
+
+/// Bytes that a driver writes into guest memory.
+#[derive(Debug, Drop)]
+pub struct Write {
+    /// The guest address of the first of them.
+    pub at: u64,
+    pub bytes: Bytes,
+}
+
+/// What a driver writes for a request, in the order of the fields.
+#[derive(Debug, Drop)]
+pub struct Submission {
+    /// The bytes of the request.
+    pub request: Write,
+    /// Its two descriptors, one behind the other.
+    pub descriptors: Write,
+    /// Its slot of the available ring.
+    pub slot: Write,
+    /// The index of the available ring.
+    pub index: Write,
+}
 
 /// The two descriptors of a request, in their 32 bytes (virtio 1.2, 2.7.5).
 #[tactic(auto, unfolding(crate::specs::Calls::chain_bytes))]
@@ -53,4 +77,43 @@ pub(crate) fn write_request(
     memory.write_covered(descriptors_at(layout, number), &chain);
     memory.write_covered(avail_slot_at(layout, number), &head);
     memory.write_covered(avail_index_at(layout), &index);
+}
+
+/// A write of these bytes at an address.
+fn write_at(alloc: Global, at: u64, bytes: &[u8]) -> Result<Write, OutOfMemory>
+    ensures { IfOk result (λ w. w ≡ record { at = at; bytes = bytes.now }) }
+{
+    let bytes = Bytes::from_slice(alloc, bytes)?;
+    Ok(Write { at, bytes })
+}
+
+/// What is written for a request.
+///
+/// # Errors
+/// Want of memory.
+pub(crate) fn writes_of(
+    alloc: Global,
+    layout: &Layout,
+    number: u64,
+    request: &[u8],
+    room: u32,
+) -> Result<Submission, OutOfMemory>
+    requires fit { IsFit layout.now }
+    requires number { number < 2 ^ 64 - 1 }
+    requires short { length request.now < 2 ^ 32 }
+    ensures { IfOk result (λ w. w ≡ writes_of layout.now number request.now room) }
+{
+    let chain = chain_bytes(layout, number, request.len() as u32, room);
+    let head = (2 * place(layout, number)).to_le_bytes();
+    let index = index_of(number + 1).to_le_bytes();
+    let request = write_at(alloc, request_at(layout, number), request)?;
+    let descriptors = write_at(alloc, descriptors_at(layout, number), &chain)?;
+    let slot = write_at(alloc, avail_slot_at(layout, number), &head)?;
+    let index = write_at(alloc, avail_index_at(layout), &index)?;
+    Ok(Submission {
+        request,
+        descriptors,
+        slot,
+        index,
+    })
 }

@@ -1,4 +1,4 @@
-use std::alloc::Global;
+use crate::shown::show;
 use std::process::Abort;
 use std::test::Fail;
 use std::time::Duration;
@@ -26,17 +26,32 @@ fn counter_is_shared_by_its_clones(rt: HostRuntime) -> Result<(), Fail> {
     Ok(())
 }
 
+/// The flags that an event may have, all together.
+fn all_flags() -> i32 {
+    EFD_SEMAPHORE | EFD_NONBLOCK | EFD_CLOEXEC
+}
+
 #[test]
 fn semaphore_gives_one_at_a_time(rt: HostRuntime) -> Result<(), Fail> {
     let mut host = MemHost::new(rt.alloc());
-    let flags = EFD_SEMAPHORE | EFD_NONBLOCK | EFD_CLOEXEC;
-    let semaphore = EventFd::new(rt.alloc(), &mut host, flags)?;
+    let semaphore = EventFd::new(rt.alloc(), &mut host, all_flags())?;
     semaphore.write(&mut host, 2)?;
     for answer in [Ok(1), Ok(1), Err(HostError::WouldBlock)] {
         assert_eq!(rt; semaphore.read(&mut host), answer);
     }
     Ok(())
 }
+
+/// What `Debug` shows of a value of each type.
+const SHOWN: &str = "\
+EventFd { object: 3 }
+EventNotifier { object: 3 }
+EventConsumer { object: 3 }
+EventFlag(2)
+TimerFd { armed: Some(Armed { next: 9, interval: 0 }) }
+Message { bytes: Bytes { octets: [97] }, objects: Listed { elements: [3] } }
+MemSocket { queue: [Message { bytes: Bytes { octets: [97] }, objects: Listed { elements: [3] } }] }
+";
 
 #[test]
 fn types_are_shown(rt: HostRuntime) -> Result<(), Fail> {
@@ -49,38 +64,15 @@ fn types_are_shown(rt: HostRuntime) -> Result<(), Fail> {
         bytes: Bytes::from_slice(alloc, b"a")?,
         objects: Listed::from_vec(Vec::from_slice(alloc, &[3])?),
     };
-    for (shown, text) in [
-        (
-            format!(in alloc; "{:?}", EventFd::from_object(3))?,
-            "EventFd { object: 3 }",
-        ),
-        (
-            format!(in alloc; "{:?}", EventNotifier::from_object(3))?,
-            "EventNotifier { object: 3 }",
-        ),
-        (
-            format!(in alloc; "{:?}", EventConsumer::from_object(3))?,
-            "EventConsumer { object: 3 }",
-        ),
-        (
-            format!(in alloc; "{:?}", EventFlag::CLOEXEC)?,
-            "EventFlag(2)",
-        ),
-        (
-            format!(in alloc; "{timer:?}")?,
-            "TimerFd { armed: Some(Armed { next: 9, interval: 0 }) }",
-        ),
-        (
-            format!(in alloc; "{message:?}")?,
-            "Message { bytes: Bytes { octets: [97] }, objects: Listed { elements: [3] } }",
-        ),
-        (
-            format!(in alloc; "{socket:?}")?,
-            "MemSocket { queue: [Message { bytes: Bytes { octets: [97] }, objects: Listed { elements: [3] } }] }",
-        ),
-    ] {
-        assert_eq!(rt; shown.as_str(), text);
-    }
+    let mut shown = String::new(alloc);
+    show(alloc, &mut shown, &EventFd::from_object(3))?;
+    show(alloc, &mut shown, &EventNotifier::from_object(3))?;
+    show(alloc, &mut shown, &EventConsumer::from_object(3))?;
+    show(alloc, &mut shown, &EventFlag::CLOEXEC)?;
+    show(alloc, &mut shown, &timer)?;
+    show(alloc, &mut shown, &message)?;
+    show(alloc, &mut shown, &socket)?;
+    assert_eq!(rt; shown.as_str(), SHOWN);
     Ok(())
 }
 
@@ -101,27 +93,28 @@ fn consumer_takes_what_the_notifier_told(rt: HostRuntime) -> Result<(), Fail> {
     Ok(())
 }
 
+fn seconds(number: u64) -> Duration {
+    Duration::from_secs(number)
+}
+
 #[test]
 fn timer_counts_its_expiries(rt: HostRuntime) {
     let mut timer = TimerFd::new();
-    let interval = Some(Duration::from_secs(5));
-    timer.reset(Duration::ZERO, Duration::from_secs(10), interval);
-    assert!(rt; timer.is_armed(Duration::from_secs(9)));
-    assert_eq!(rt;
-        timer.wait(Duration::from_secs(9)),
-        Err(HostError::WouldBlock)
-    );
-    assert_eq!(rt; timer.wait(Duration::from_secs(21)), Ok(3));
-    assert_eq!(rt; timer.wait(Duration::from_secs(25)), Ok(1));
+    let interval = Some(seconds(5));
+    timer.reset(Duration::ZERO, seconds(10), interval);
+    assert!(rt; timer.is_armed(seconds(9)));
+    assert_eq!(rt; timer.wait(seconds(9)), Err(HostError::WouldBlock));
+    assert_eq!(rt; timer.wait(seconds(21)), Ok(3));
+    assert_eq!(rt; timer.wait(seconds(25)), Ok(1));
 }
 
 #[test]
 fn timer_without_interval_expires_once(rt: HostRuntime) {
     let mut timer = TimerFd::new();
-    timer.reset(Duration::ZERO, Duration::from_secs(1), None);
-    assert_eq!(rt; timer.wait(Duration::from_secs(7)), Ok(1));
-    assert!(rt; !timer.is_armed(Duration::from_secs(7)));
-    timer.reset(Duration::ZERO, Duration::from_secs(1), None);
+    timer.reset(Duration::ZERO, seconds(1), None);
+    assert_eq!(rt; timer.wait(seconds(7)), Ok(1));
+    assert!(rt; !timer.is_armed(seconds(7)));
+    timer.reset(Duration::ZERO, seconds(1), None);
     timer.clear();
     assert!(rt; !timer.is_armed(Duration::ZERO));
 }

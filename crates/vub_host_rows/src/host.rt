@@ -1,3 +1,4 @@
+use crate::shown::show;
 use log::sink::Memory;
 use std::alloc::Global;
 use std::process::Abort;
@@ -57,14 +58,16 @@ fn list_reports_what_is_ready(rt: HostRuntime) -> Result<(), Fail> {
     Ok(())
 }
 
+/// An event of these bits and data.
+fn event_of(bits: u32, data: u64) -> EpollEvent {
+    EpollEvent::from_raw(bits, data)
+}
+
 #[test]
 fn event_has_bits_and_data(rt: HostRuntime) -> Result<(), Fail> {
-    assert!(rt; EpollEvent::from_raw(0x20, 0).event_set().is_none());
-    assert_eq!(rt;
-        EpollEvent::from_raw(0x10, 0).event_set(),
-        Some(EventSet::HANG_UP)
-    );
-    assert_eq!(rt; EpollEvent::from_raw(0, 0xffff_ffff_ffff_fffe).fd(), -2);
+    assert!(rt; event_of(0x20, 0).event_set().is_none());
+    assert_eq!(rt; event_of(0x10, 0).event_set(), Some(EventSet::HANG_UP));
+    assert_eq!(rt; event_of(0, 0xffff_ffff_ffff_fffe).fd(), -2);
     let shown = format!(in rt.alloc(); "{:?}", EpollEvent::default())?;
     assert_eq!(rt; shown.as_str(), "{ events: 0, data: 0 }");
     Ok(())
@@ -72,7 +75,7 @@ fn event_has_bits_and_data(rt: HostRuntime) -> Result<(), Fail> {
 
 #[test]
 fn event_tells_what_it_reports(rt: HostRuntime) -> Result<(), Fail> {
-    let events = [EpollEvent::from_raw(0x1d, 0x10)];
+    let events = [event_of(0x1d, 0x10)];
     let polled: PollEvents<u32> = PollEvents::new(&events);
     let owned = polled.to_owned(rt.alloc())?;
     let mut count = 0u32;
@@ -90,11 +93,7 @@ fn event_tells_what_it_reports(rt: HostRuntime) -> Result<(), Fail> {
 #[test]
 fn all_events_are_gone_over(rt: HostRuntime) {
     // one that has no bit, one to be read, one hung up
-    let events = [
-        EpollEvent::from_raw(0, 1),
-        EpollEvent::from_raw(1, 2),
-        EpollEvent::from_raw(0x10, 3),
-    ];
+    let events = [event_of(0, 1), event_of(1, 2), event_of(0x10, 3)];
     let polled: PollEvents<u32> = PollEvents::new(&events);
     assert_eq!(rt; polled.iter().count(), 3);
     assert_eq!(rt; polled.iter_readable().count(), 1);
@@ -111,6 +110,22 @@ fn lists_have_numbers(rt: HostRuntime) -> Result<(), Fail> {
     Ok(())
 }
 
+/// What `Debug` shows of a value of each type.
+const SHOWN: &str = "\
+Epoll { list: 0 }
+EpollContext { list: 1, tokens: PhantomData<_> }
+PollContext { context: EpollContext { list: 2, tokens: PhantomData<_> }, events: EpollEvents [{ events: 1, data: 7 }], \
+checks: true, hangups: 0, members: 1 }
+PollEvents { events: EpollEvents [{ events: 1, data: 7 }], tokens: PhantomData<_> }
+PollEventIter { mask: None, events: [{ events: 1, data: 7 }], tokens: PhantomData<_> }
+PollEventsOwned { events: [{ events: 1, data: 7 }], tokens: PhantomData<_> }
+Some(PollEvent { event: { events: 1, data: 7 }, tokens: PhantomData<_> })
+EpollEvents []
+{ events: 1, data: 7 }
+WatchingEvents(5)
+Delete
+";
+
 #[test]
 fn types_are_shown(rt: HostRuntime) -> Result<(), Fail> {
     let alloc = rt.alloc();
@@ -121,52 +136,19 @@ fn types_are_shown(rt: HostRuntime) -> Result<(), Fail> {
     let mut poll: PollContext<u8> = PollContext::new(alloc, &mut host)?;
     poll.add(alloc, &mut host, 0, 7)?;
     let polled = poll.wait(alloc, &mut host, &log)?;
-    for (shown, text) in [
-        (format!(in alloc; "{epoll:?}")?, "Epoll { list: 0 }"),
-        (
-            format!(in alloc; "{context:?}")?,
-            "EpollContext { list: 1, tokens: PhantomData<_> }",
-        ),
-        (
-            format!(in alloc; "{poll:?}")?,
-            "PollContext { context: EpollContext { list: 2, tokens: PhantomData<_> }, \
-            events: EpollEvents [{ events: 1, data: 7 }], checks: true, hangups: 0, members: 1 }",
-        ),
-        (
-            format!(in alloc; "{polled:?}")?,
-            "PollEvents { events: EpollEvents [{ events: 1, data: 7 }], tokens: PhantomData<_> }",
-        ),
-        (
-            format!(in alloc; "{:?}", polled.iter())?,
-            "PollEventIter { mask: None, events: [{ events: 1, data: 7 }], tokens: PhantomData<_> }",
-        ),
-        (
-            format!(in alloc; "{:?}", polled.to_owned(alloc)?)?,
-            "PollEventsOwned { events: [{ events: 1, data: 7 }], tokens: PhantomData<_> }",
-        ),
-        (
-            format!(in alloc; "{:?}", polled.iter().next())?,
-            "Some(PollEvent { event: { events: 1, data: 7 }, tokens: PhantomData<_> })",
-        ),
-        (
-            format!(in alloc; "{:?}", EpollEvents::new())?,
-            "EpollEvents []",
-        ),
-        (
-            format!(in alloc; "{:?}", EpollEvent::from_raw(1, 7))?,
-            "{ events: 1, data: 7 }",
-        ),
-        (
-            format!(in alloc; "{:?}", WatchingEvents::new(5))?,
-            "WatchingEvents(5)",
-        ),
-        (
-            format!(in alloc; "{:?}", ControlOperation::Delete)?,
-            "Delete",
-        ),
-    ] {
-        assert_eq!(rt; shown.as_str(), text);
-    }
+    let mut shown = String::new(alloc);
+    show(alloc, &mut shown, &epoll)?;
+    show(alloc, &mut shown, &context)?;
+    show(alloc, &mut shown, &poll)?;
+    show(alloc, &mut shown, &polled)?;
+    show(alloc, &mut shown, &polled.iter())?;
+    show(alloc, &mut shown, &polled.to_owned(alloc)?)?;
+    show(alloc, &mut shown, &polled.iter().next())?;
+    show(alloc, &mut shown, &EpollEvents::new())?;
+    show(alloc, &mut shown, &EpollEvent::from_raw(1, 7))?;
+    show(alloc, &mut shown, &WatchingEvents::new(5))?;
+    show(alloc, &mut shown, &ControlOperation::Delete)?;
+    assert_eq!(rt; shown.as_str(), SHOWN);
     Ok(())
 }
 
@@ -194,9 +176,14 @@ fn refusals_have_the_numbers_of_linux(rt: HostRuntime) {
     }
 }
 
+/// A token of eight bytes that differ.
+fn raw_token() -> u64 {
+    0x1122_3344_5566_7788
+}
+
 #[test]
 fn tokens_are_cut_to_their_bits(rt: HostRuntime) {
-    let raw = 0x1122_3344_5566_7788;
+    let raw = raw_token();
     assert_eq!(rt; u64::from_raw_token(raw), raw);
     assert_eq!(rt; usize::from_raw_token(raw).as_raw_token(), raw);
     assert_eq!(rt; u32::from_raw_token(raw).as_raw_token(), 0x5566_7788);

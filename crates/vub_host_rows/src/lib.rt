@@ -10,6 +10,8 @@ mod event;
 #[cfg(test)]
 mod host;
 #[cfg(test)]
+mod shown;
+#[cfg(test)]
 mod sparse;
 #[cfg(test)]
 mod stream;

@@ -1,3 +1,4 @@
+use crate::shown::{show, tell};
 use std::alloc::Global;
 use std::test::Fail;
 use vub_stream::{
@@ -50,24 +51,24 @@ fn a_text_is_written_piece_by_piece(rt: HostRuntime) -> Result<(), Fail> {
     Ok(())
 }
 
+/// What `Debug` shows of a source and a sink, and the texts of their faults.
+const SHOWN: &str = "\
+MemSource { bytes: [104, 105], at: 0, piece: 2, failing: [], calls: 0, ended: false, faults: 0 }
+MemSink { bytes: [], room: 8, piece: 3, failing: [5], stalling: [], calls: 0, faults: 0 }
+read fault
+write fault
+";
+
 #[test]
 fn types_are_shown(rt: HostRuntime) -> Result<(), Fail> {
     let alloc = rt.alloc();
     let source = MemSource::new(Vec::from_slice(alloc, b"hi")?, 2, Vec::new(alloc));
     let sink = MemSink::new(alloc, 8, 3, vec![in alloc; 5]?, Vec::new(alloc))?;
-    for (shown, text) in [
-        (
-            format!(in alloc; "{source:?}")?,
-            "MemSource { bytes: [104, 105], at: 0, piece: 2, failing: [], calls: 0, ended: false, faults: 0 }",
-        ),
-        (
-            format!(in alloc; "{sink:?}")?,
-            "MemSink { bytes: [], room: 8, piece: 3, failing: [5], stalling: [], calls: 0, faults: 0 }",
-        ),
-        (format!(in alloc; "{}", SourceError::Failed)?, "read fault"),
-        (format!(in alloc; "{}", SinkError::Failed)?, "write fault"),
-    ] {
-        assert_eq!(rt; shown.as_str(), text);
-    }
+    let mut shown = String::new(alloc);
+    show(alloc, &mut shown, &source)?;
+    show(alloc, &mut shown, &sink)?;
+    tell(alloc, &mut shown, &SourceError::Failed)?;
+    tell(alloc, &mut shown, &SinkError::Failed)?;
+    assert_eq!(rt; shown.as_str(), SHOWN);
     Ok(())
 }

@@ -1,6 +1,7 @@
 ghost use Rattle.std.specs.Prelude.{◌≡◌, ◌<◌, length, slice_set};
 
-use std::alloc::{AllocError, Global};
+use crate::shown::{show, tell};
+use std::alloc::AllocError;
 use std::io::{self, Read, Seek, SeekFrom, Write};
 use std::sync::atomic::AtomicU64;
 use std::test::Fail;
@@ -65,41 +66,39 @@ fn errors_carry_and_print_their_number(rt: HostRuntime) -> Result<(), Fail> {
     Ok(())
 }
 
-// the text of an error, through the trait of errors
-fn message<E: std::error::Error>(alloc: Global, error: E) -> Result<String, AllocError> {
-    format!(in alloc; "{error}")
-}
+/// What `Debug` shows of values, and the texts of errors.
+const SHOWN: &str = "\
+Error(9)
+SyscallReturnCode(-1)
+SizeLimitExceeded
+FamStructWrapper { header: Header { kind: 0, count: 1 }, entries: [0] }
+Os(2)
+Bad file descriptor (os error 9)
+The max size has been exceeded
+out of memory
+os error 2
+";
 
 #[test]
 fn types_are_shown(rt: HostRuntime) -> Result<(), Fail> {
     let alloc = rt.alloc();
     // the type of the value is left out, so it is C's int
     let failed: SyscallReturnCode = SyscallReturnCode(-1);
-    for (shown, text) in [
-        (format!(in alloc; "{:?}", Error::new(9))?, "Error(9)"),
-        (
-            message(alloc, Error::new(9))?,
-            "Bad file descriptor (os error 9)",
-        ),
-        (format!(in alloc; "{failed:?}")?, "SyscallReturnCode(-1)"),
-        (
-            format!(in alloc; "{:?}", fam::Error::SizeLimitExceeded)?,
-            "SizeLimitExceeded",
-        ),
-        (
-            message(alloc, fam::Error::SizeLimitExceeded)?,
-            "The max size has been exceeded",
-        ),
-        (message(alloc, fam::Error::OutOfMemory)?, "out of memory"),
-        (
-            format!(in alloc; "{:?}", FamStructWrapper::<Header>::new(alloc, 1)?)?,
-            "FamStructWrapper { header: Header { kind: 0, count: 1 }, entries: [0] }",
-        ),
-        (format!(in alloc; "{:?}", TempError::Os(2))?, "Os(2)"),
-        (message(alloc, TempError::Os(2))?, "os error 2"),
-    ] {
-        assert_eq!(rt; shown.as_str(), text);
-    }
+    let mut shown = String::new(alloc);
+    show(alloc, &mut shown, &Error::new(9))?;
+    show(alloc, &mut shown, &failed)?;
+    show(alloc, &mut shown, &fam::Error::SizeLimitExceeded)?;
+    show(
+        alloc,
+        &mut shown,
+        &FamStructWrapper::<Header>::new(alloc, 1)?,
+    )?;
+    show(alloc, &mut shown, &TempError::Os(2))?;
+    tell(alloc, &mut shown, &Error::new(9))?;
+    tell(alloc, &mut shown, &fam::Error::SizeLimitExceeded)?;
+    tell(alloc, &mut shown, &fam::Error::OutOfMemory)?;
+    tell(alloc, &mut shown, &TempError::Os(2))?;
+    assert_eq!(rt; shown.as_str(), SHOWN);
     Ok(())
 }
 
@@ -114,18 +113,42 @@ fn system_calls_fail_at_minus_one(rt: HostRuntime) {
     );
 }
 
+/// How a number of an ioctl is made: its direction apart from its size, or by one of the four calls.
+#[derive(Clone, Copy)]
+enum Ioctl {
+    Neither(u32, u32),
+    Read(u32, u32, u32),
+    Write(u32, u32, u32),
+    Both(u32, u32, u32),
+    Of(u32, u32, u32, u32),
+}
+
+fn ioctl_number(call: Ioctl) -> u64 {
+    match call {
+        Ioctl::Neither(ty, nr) => ioctl::ioctl_io_nr(ty, nr),
+        Ioctl::Read(ty, nr, size) => ioctl::ioctl_ior_nr(ty, nr, size),
+        Ioctl::Write(ty, nr, size) => ioctl::ioctl_iow_nr(ty, nr, size),
+        Ioctl::Both(ty, nr, size) => ioctl::ioctl_iowr_nr(ty, nr, size),
+        Ioctl::Of(dir, ty, nr, size) => ioctl::ioctl_expr(dir, ty, nr, size),
+    }
+}
+
 #[test]
 fn ioctl_numbers_are_those_of_the_kernel(rt: HostRuntime) {
     // /dev/net/tun, the input devices, KVM and vhost
-    assert_eq!(rt; ioctl::ioctl_ior_nr(0x54, 0xcf, 4), 0x8004_54cf);
-    assert_eq!(rt; ioctl::ioctl_ior_nr(0x45, 0x20 + 2, 128), 0x8080_4522);
-    assert_eq!(rt; ioctl::ioctl_io_nr(0xae, 1), 0xae01);
-    assert_eq!(rt; ioctl::ioctl_io_nr(0xaf, 1), 0xaf01);
-    assert_eq!(rt; ioctl::ioctl_io_nr(0x45, 1 + 3 + 5), 0x4509);
-    assert_eq!(rt; ioctl::ioctl_iowr_nr(0xae, 2, 4), 0xc004_ae02);
-    assert_eq!(rt; ioctl::ioctl_iowr_nr(0xaf, 0x12, 4), 0xc004_af12);
-    assert_eq!(rt; ioctl::ioctl_iow_nr(0x54, 0xd9, 4), 0x4004_54d9);
-    assert_eq!(rt; ioctl::ioctl_expr(ioctl::_IOC_NONE, 0xae, 1, 0), 0xae01);
+    for (call, number) in [
+        (Ioctl::Read(0x54, 0xcf, 4), 0x8004_54cf),
+        (Ioctl::Read(0x45, 0x22, 128), 0x8080_4522),
+        (Ioctl::Neither(0xae, 1), 0xae01),
+        (Ioctl::Neither(0xaf, 1), 0xaf01),
+        (Ioctl::Neither(0x45, 9), 0x4509),
+        (Ioctl::Both(0xae, 2, 4), 0xc004_ae02),
+        (Ioctl::Both(0xaf, 0x12, 4), 0xc004_af12),
+        (Ioctl::Write(0x54, 0xd9, 4), 0x4004_54d9),
+        (Ioctl::Of(ioctl::_IOC_NONE, 0xae, 1, 0), 0xae01),
+    ] {
+        assert_eq!(rt; ioctl_number(call), number);
+    }
 }
 
 #[test]

@@ -65,7 +65,12 @@ impl<D: VhostUserBackendMut, V: Service, G: Gate + Drop> SharedParts<D, V, G> {
     ///
     /// # Errors
     /// Want of memory, or 4294967295 contents were added.
-    pub fn add_content<R: Wait>(&self, rt: &R, bytes: Bytes) -> Result<u32, OutOfMemory> {
+    pub fn add_content<R: Wait>(
+        &self,
+        rt: &R,
+        alloc: Global,
+        bytes: Bytes,
+    ) -> Result<u32, OutOfMemory> {
         let Some(number) = next_number(rt, &self.contents) else {
             return Err(OutOfMemory);
         };
@@ -73,7 +78,7 @@ impl<D: VhostUserBackendMut, V: Service, G: Gate + Drop> SharedParts<D, V, G> {
         if memory.has_object(number) {
             return Err(OutOfMemory);
         }
-        match memory.put_object(number, bytes) {
+        match memory.put_object(alloc, number, bytes) {
             Ok(()) => Ok(number),
             Err(_) => Err(OutOfMemory),
         }
@@ -101,7 +106,7 @@ impl<D: VhostUserBackendMut, V: Service, G: Gate + Drop> SharedParts<D, V, G> {
         if memory.has_log(number) {
             return Err(LogError::OutOfMemory);
         }
-        match memory.put_log(number, seat) {
+        match memory.put_log(alloc, number, seat) {
             Ok(()) => Ok((number, harvester)),
             Err(_) => Err(LogError::OutOfMemory),
         }

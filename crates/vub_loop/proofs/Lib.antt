@@ -1,5 +1,6 @@
 pub mod Answers
 pub mod Counters
+pub mod Events
 pub mod Listeners
 pub mod Looping
 pub mod Masks

@@ -1,72 +1,83 @@
--- The queues of event numbers, one more number at a time, in the memory of the numbers.
-use Rattle.std.proofs.Common.{◌≡◌, ℕ, suc, ◌+◌, ◌<◌, ◌≤◌, Bool, true, false, nat_lt, List, [], ◌∷◌, ◌++◌, map, filter, length, take, drop, get_or, set, slice_index, cond, refl, ap, sym, ◌∙◌, arith, append-nil, length-set, drop-cons}
+-- The queues of event numbers, one more number at a time, in a vector that has room for each queue.
+use Rattle.std.proofs.Common.{◌≡◌, ℕ, suc, ◌+◌, ◌<◌, ◌≤◌, true, false, nat_lt, List, [], ◌∷◌, ◌++◌, length, take, drop, get_or, set, slice_index, slice_get, Some, cond, refl, ap, sym, ◌∙◌, arith, append-nil, append_assoc, subst, map, filter, Option, None, length-set}
 use Rattle.std.proofs.lemmas.Bool.Decides.{nat_tests}
-use Rattle.std.proofs.lemmas.List.{map-append, take_more, take_more_set, drop-set-lt, get_or-drop, get_or_default}
-use Rattle.std.proofs.lemmas.List.Elements.{filter-append}
+use Rattle.std.proofs.lemmas.List.{take_more_set}
 use Rattle.vub_model.specs.Work.{queues_numbered}
+use Rattle.vub_ring.specs.Pending.{AscendsFrom}
 
-abbrev if_listed : List ℕ → ℕ → Bool → List ℕ
-if_listed queues number listed = cond listed (slice_index queues number ∷ []) []
+-- The numbers before the rest are done: their queues stand at the front, and none of the rest is below their count.
+pub record IsDone (queues numbers rest due : List ℕ) (kept : ℕ) : Type 0 where
+  pub room : length queues ≤ length due
+  pub within : kept ≤ length due
+  pub front : take kept due ++ queues_numbered queues rest ≡ queues_numbered queues numbers
+  pub later : AscendsFrom 0 rest → AscendsFrom kept rest
 
-map-if : (queues : List ℕ) (number : ℕ) (listed : Bool) → map (λ (n : ℕ). slice_index queues n) (cond listed (number ∷ []) []) ≡ if_listed queues number listed
-map-if queues number true = refl
-map-if queues number false = refl
+-- a number of the list, and another one
+numbered-listed : (queues : List ℕ) (n : ℕ) (ns : List ℕ) → nat_lt n (length queues) ≡ true → queues_numbered queues (n ∷ ns) ≡ slice_index queues n ∷ queues_numbered queues ns
+numbered-listed queues n ns is = ap (λ b. map (λ m. slice_index queues m) (cond b (n ∷ filter (λ m. nat_lt m (length queues)) ns) (filter (λ m. nat_lt m (length queues)) ns))) is
 
-numbered-append : (queues numbers : List ℕ) (number : ℕ) → queues_numbered queues (numbers ++ number ∷ []) ≡ queues_numbered queues numbers ++ if_listed queues number (nat_lt number (length queues))
-numbered-append queues numbers number =
-    let test = λ (n : ℕ). nat_lt n (length queues) in
-    let at = λ (n : ℕ). slice_index queues n in
-    ap (map at) (filter-append test numbers (number ∷ [])) ∙ map-append at (filter test numbers) (filter test (number ∷ []))
-    ∙ ap (λ (l : List ℕ). queues_numbered queues numbers ++ l) (map-if queues number (nat_lt number (length queues)))
+numbered-unlisted : (queues : List ℕ) (n : ℕ) (ns : List ℕ) → nat_lt n (length queues) ≡ false → queues_numbered queues (n ∷ ns) ≡ queues_numbered queues ns
+numbered-unlisted queues n ns is = ap (λ b. map (λ m. slice_index queues m) (cond b (n ∷ filter (λ m. nat_lt m (length queues)) ns) (filter (λ m. nat_lt m (length queues)) ns))) is
 
-numbered-more : (queues numbers : List ℕ) (at number : ℕ) (listed : Bool) → at < length numbers → get_or numbers at 0 ≡ number → nat_lt number (length queues) ≡ listed → queues_numbered queues (take (at + 1) numbers) ≡ queues_numbered queues (take at numbers) ++ if_listed queues number listed
-numbered-more queues numbers at number listed within here is =
-    ap (queues_numbered queues) (take_more numbers at 0 within ∙ ap (λ (n : ℕ). take at numbers ++ n ∷ []) here) ∙ numbered-append queues (take at numbers) number
-    ∙ ap (λ (b : Bool). queues_numbered queues (take at numbers) ++ if_listed queues number b) is
+-- a list that ascends from a number ascends from a lesser one
+ascends-lower : (a b : ℕ) (ns : List ℕ) → a ≤ b → AscendsFrom b ns → AscendsFrom a ns
+ascends-lower a b [] le is = is
+ascends-lower a b (n ∷ ns) le is = let first : b ≤ n = is.0 in (omega arith, is.1)
 
--- The numbers up to `at` are done: their queues stand at the front, and the other numbers where they stood.
-pub record IsDone (queues numbers due : List ℕ) (kept at : ℕ) : Type 0 where
-  pub within : kept ≤ at
-  pub same_length : length due ≡ length numbers
-  pub front : take kept due ≡ queues_numbered queues (take at numbers)
-  pub rest : drop at due ≡ drop at numbers
+-- the number that an option holds
+held : Option ℕ → ℕ
+held None = 0
+held (Some n) = n
 
-module _ (queues numbers due : List ℕ) (kept at number : ℕ) (d : IsDone queues numbers due kept at) (more : at < length numbers) (here : number ≡ get_or due at number) where
-  same-number : get_or numbers at 0 ≡ number
-  same-number =
-      let at-start : at + 0 ≡ at = omega arith in
-      let in-due : at < length due = omega (arith, d.same_length) in
-      ap (λ (i : ℕ). get_or numbers i 0) (sym at-start) ∙ sym (get_or-drop at numbers 0 0) ∙ ap (λ (l : List ℕ). get_or l 0 0) (sym d.rest) ∙ get_or-drop at due 0 0
-      ∙ ap (λ (i : ℕ). get_or due i 0) at-start ∙ get_or_default due at 0 number in-due ∙ sym here
+-- what is left behind the first number
+module _ (rest next : List ℕ) (number : ℕ) (first : Some number ≡ slice_get rest 0) (left : next ≡ drop 1 rest) where
+  pub split : rest ≡ number ∷ next
+  unfolding held
+  split = by-rest rest first left
+    where
+      by-rest : (ns : List ℕ) → Some number ≡ slice_get ns 0 → next ≡ drop 1 ns → ns ≡ number ∷ next
+      by-rest [] some is = absurd cc
+      by-rest (n ∷ ns) some is = let same : number ≡ n = ap held some in ap (λ m. m ∷ ns) (sym same) ∙ ap (λ ms. number ∷ ms) (sym is)
 
-  rest-more : drop (at + 1) due ≡ drop (at + 1) numbers
-  rest-more =
-      let in-due : at < length due = omega (arith, d.same_length) in
-      let next : at + 1 ≡ suc at = omega arith in
-      let due-cons : drop at due ≡ get_or due at 0 ∷ drop (suc at) due = drop-cons due at 0 in-due in
-      let numbers-cons : drop at numbers ≡ get_or numbers at 0 ∷ drop (suc at) numbers = drop-cons numbers at 0 more in
-      let tails : drop (suc at) due ≡ drop (suc at) numbers = cc d.rest in
-      ap (λ (i : ℕ). drop i due) next ∙ tails ∙ ap (λ (i : ℕ). drop i numbers) (sym next)
+pub done-none : (queues numbers due : List ℕ) → length queues ≤ length due → IsDone queues numbers numbers due 0
+done-none queues numbers due room = record { room = room; within = omega arith; front = refl; later = λ is. is }
+
+module _ (queues numbers rest next due : List ℕ) (kept number : ℕ) (d : IsDone queues numbers rest due kept) (ascends : AscendsFrom 0 rest) (is : rest ≡ number ∷ next) where
+  least : AscendsFrom kept (number ∷ next)
+  least = subst (AscendsFrom kept) is (d.later ascends)
+
+  -- there are no more queues than numbers up to this one
+  pub kept-within : kept ≤ number
+  kept-within = least.0
 
   -- the number of a queue of the list: the queue joins the front
-  pub kept-more : number < length queues → IsDone queues numbers (set due kept (get_or queues number 0)) (kept + 1) (at + 1)
+  pub kept-more : number < length queues → IsDone queues numbers next (set due kept (get_or queues number 0)) (kept + 1)
   kept-more listed =
-      let in-due : kept < length due = omega (arith, d.same_length, d.within) in
       let test : nat_lt number (length queues) ≡ true = grind (arith, nat_tests) in
+      let below : kept ≤ number = kept-within in
+      let in-due : kept < length due = omega (arith, d.room) in
+      let same : length (set due kept (get_or queues number 0)) ≡ length due = length-set due kept (get_or queues number 0) in
       record {
-        within = omega (arith, d.within);
-        same_length = length-set due kept (get_or queues number 0) ∙ d.same_length;
-        front = take_more_set due kept (get_or queues number 0) in-due ∙ ap (λ (l : List ℕ). l ++ get_or queues number 0 ∷ []) d.front ∙ sym (numbered-more queues numbers at number true more same-number test);
-        rest = drop-set-lt (at + 1) due kept (get_or queues number 0) (omega (arith, d.within)) ∙ rest-more;
+        room = omega (arith, d.room, same);
+        within = omega (arith, same);
+        front =
+            ap (λ l. l ++ queues_numbered queues next) (take_more_set due kept (get_or queues number 0) in-due) ∙ append_assoc (take kept due) (get_or queues number 0 ∷ []) (queues_numbered queues next)
+            ∙ ap (λ l. take kept due ++ l) (sym (numbered-listed queues number next test)) ∙ ap (λ l. take kept due ++ queues_numbered queues l) (sym is) ∙ d.front;
+        later = λ from. ascends-lower (kept + 1) (suc number) next (omega arith) least.1;
       }
 
   -- another number is passed over
-  pub passed-more : length queues ≤ number → IsDone queues numbers due kept (at + 1)
+  pub passed-more : length queues ≤ number → IsDone queues numbers next due kept
   passed-more unlisted =
       let test : nat_lt number (length queues) ≡ false = grind (arith, nat_tests) in
       record {
-        within = omega (arith, d.within);
-        same_length = d.same_length;
-        front = d.front ∙ sym (append-nil (queues_numbered queues (take at numbers))) ∙ sym (numbered-more queues numbers at number false more same-number test);
-        rest = rest-more;
+        room = d.room;
+        within = d.within;
+        front = ap (λ l. take kept due ++ l) (sym (numbered-unlisted queues number next test)) ∙ ap (λ l. take kept due ++ queues_numbered queues l) (sym is) ∙ d.front;
+        later = λ from. ascends-lower kept (suc number) next (let below : kept ≤ number = kept-within in omega arith) least.1;
       }
+
+-- nothing is left
+pub done-all : (queues numbers rest due : List ℕ) (kept : ℕ) (o : Option ℕ) → IsDone queues numbers rest due kept → o ≡ slice_get rest 0 → ((n : ℕ) → o ≡ Some n → ⊥) → take kept due ≡ queues_numbered queues numbers
+done-all queues numbers [] due kept o d first none = sym (append-nil (take kept due)) ∙ d.front
+done-all queues numbers (n ∷ ns) due kept o d first none = absurd (none n first)

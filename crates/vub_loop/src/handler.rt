@@ -1,4 +1,4 @@
-ghost use Rattle.std.specs.Prelude.{◌≡◌, ℕ, IfOk, IfErr, None};
+ghost use Rattle.std.specs.Prelude.{◌≡◌, ℕ, false, IfOk, IfErr, None};
 ghost use Rattle.std.specs.Option.{ForSome};
 ghost use Rattle.vub_model.specs.Service.{meaning};
 ghost use Rattle.vub_model.specs.Wiring.{Wiring};
@@ -19,7 +19,7 @@ ghost use Rattle.vub_loop.specs.Stepping.{OnPhases, StepsBy, PollsBy, PollingBy,
 use crate::finished::Finished;
 use crate::listening::EpollHandle;
 use crate::mask::queues_of_worker;
-use crate::phases::{handled, queues_at, refusal, serving_of, serving_rest, stopped_by};
+use crate::phases::{handled, make_room, queues_at, refusal, serving_of, serving_rest, stopped_by};
 use crate::polling::Polling;
 use crate::reading::{heard, kicked, rung};
 use crate::said::member_of;
@@ -49,11 +49,15 @@ pub struct VringEpollHandler {
     /// The number of all queues, which is the token of the bell and of the exit object.
     count: usize,
     standing: Standing,
+    /// A worker that is to sweep has room for a list of its queues, so that the sweep takes no memory.
+    room: Vec<u32>,
     /// What the last step used.
     finished: Option<Finished>,
 }
 
 impl Model for VringEpollHandler {
+    ghost use Rattle.std.specs.Prelude.{◌≡◌, ◌≤◌, true, length};
+    ghost use Rattle.vub_loop.specs.Phases.{is_rung};
     ghost use Rattle.vub_loop.specs.Worker.{Worker};
 
     ghost Value = { Worker };
@@ -65,6 +69,8 @@ impl Model for VringEpollHandler {
       phase = h.standing;
       finished = h.finished;
     } };
+
+    ghost invariant = { λ h. is_rung h.standing ≡ true → length h.queues ≤ length h.room.items };
 }
 
 impl VringEpollHandler {
@@ -75,9 +81,10 @@ impl VringEpollHandler {
         self.opened
     }
 
-    /// Where the worker stands.
+    /// Where the worker stands. An entry in hand has the room of its segments, and the reply to it fits there.
     pub fn phase(&self) -> &Phase
-        ensures { result.now ≡ phase_of self.now }
+        ensures same { result.now ≡ phase_of self.now }
+        ensures fits { IsSound (phase_of self.now) }
     {
         self.standing.phase()
     }
@@ -90,9 +97,10 @@ impl VringEpollHandler {
         mem::replace(&mut self.finished, None)
     }
 
-    /// The worker stands in this phase, and used nothing.
+    /// The worker stands in this phase, which is no sweep, and used nothing.
     fn stand(&mut self, phase: Phase)
-        requires { IsSound phase }
+        requires sound { IsSound phase }
+        requires unrung { is_rung phase ≡ false }
         ensures { self.new ≡ record self.old { phase = phase; finished = None } }
     {
         self.standing = Standing::new(phase);
@@ -200,8 +208,13 @@ impl VringEpollHandler {
     {
         match self.standing.phase() {
             Phase::Polled { object, token } => {
-                let phase = self.read(alloc, parts, *object, *token)?;
-                self.stand(phase);
+                let (object, token) = (*object, *token);
+                if make_room(alloc, &mut self.room, self.queues.as_slice()).is_err() {
+                    return Err(VringEpollError::OutOfMemory);
+                }
+                let phase = self.read(alloc, parts, object, token)?;
+                self.standing = Standing::new(phase);
+                self.finished = None;
                 Ok(true)
             }
             _ => {
@@ -233,8 +246,10 @@ impl VringEpollHandler {
         }
         match parts.pend(alloc, self.opened.worker, PendOp::TakeAll) {
             Ok(PendSaid::All(numbers)) => {
-                let queues = queues_at(self.queues.as_slice(), numbers);
-                self.stand(serving_of(queues));
+                let room = mem::replace(&mut self.room, Vec::new(alloc));
+                let queues = queues_at(self.queues.as_slice(), numbers, room);
+                self.standing = Standing::new(serving_of(queues));
+                self.finished = None;
                 Ok(true)
             }
             Ok(PendSaid::Done) => {
@@ -362,7 +377,8 @@ impl VringEpollHandler {
                 }
             },
             phase => {
-                self.stand(phase);
+                self.standing = Standing::new(phase);
+                self.finished = None;
                 Ok(false)
             }
         }
@@ -396,7 +412,8 @@ impl VringEpollHandler {
                 }
             },
             phase => {
-                self.stand(phase);
+                self.standing = Standing::new(phase);
+                self.finished = None;
                 Ok(false)
             }
         }
@@ -439,7 +456,8 @@ impl VringEpollHandler {
                 }
             }
             phase => {
-                self.stand(phase);
+                self.standing = Standing::new(phase);
+                self.finished = None;
                 Ok(false)
             }
         }
@@ -517,7 +535,12 @@ impl VringEpollHandler {
     }
 
     /// A worker that was opened, before its first step, with its queues of so many.
-    fn with_queues(opened: Opened, queues: Listed<u32>, count: usize) -> VringEpollHandler
+    fn with_queues(
+        alloc: Global,
+        opened: Opened,
+        queues: Listed<u32>,
+        count: usize,
+    ) -> VringEpollHandler
         ensures { result ≡ record {
           opened = opened;
           queues = queues;
@@ -531,6 +554,7 @@ impl VringEpollHandler {
             queues,
             count,
             standing: Standing::new(Phase::Idle),
+            room: Vec::new(alloc),
             finished: None,
         }
     }
@@ -547,7 +571,7 @@ impl VringEpollHandler {
         ensures { IfOk result (λ h. h ≡ new_handler constants.now opened) }
     {
         let queues = queues_of_worker(alloc, constants, opened.worker)?;
-        Ok(VringEpollHandler::with_queues(opened, queues, constants.queues))
+        Ok(VringEpollHandler::with_queues(alloc, opened, queues, constants.queues))
     }
 
     /// A worker that was opened, before its first step. The parts' device is asked for what it never changes.
@@ -593,6 +617,6 @@ impl VringEpollHandler {
             return Err(VringEpollError::OutOfMemory);
         };
         let opened = open_worker(alloc, parts, worker)?;
-        Ok(VringEpollHandler::with_queues(opened, queues, constants.queues))
+        Ok(VringEpollHandler::with_queues(alloc, opened, queues, constants.queues))
     }
 }

@@ -1,11 +1,13 @@
-ghost use Rattle.std.specs.Prelude.{◌≡◌, ℕ, drop};
+ghost use Rattle.std.specs.Prelude.{◌≡◌, ◌≤◌, ℕ, false, drop, length, OnOk};
 ghost use Rattle.vub_base.specs.Causes.{Rose};
 ghost use Rattle.vub_model.specs.Work.{after_heard, serving, stopped, queues_numbered, why_of};
 ghost use Rattle.vub_vring.specs.Calls.{IsCounted};
 ghost use Rattle.vub_loop.specs.Faults.{IsDeviceStop, IsHostStop};
-ghost use Rattle.vub_loop.specs.Phases.{ServesTo};
+ghost use Rattle.vub_loop.specs.Phases.{is_rung, ServesTo};
 ghost use Rattle.vub_loop.specs.Sound.{IsSound};
 
+use std::alloc::Global;
+use vub_base::OutOfMemory;
 use vub_model::{Phase, Queues, StopCause, VringEpollError, Why};
 use vub_proto::DeviceSaid;
 use vub_queue::PutFault;
@@ -15,6 +17,7 @@ use vub_vring::Pending;
 pub(crate) fn stopped_by(why: Why) -> Phase
     ensures same { result ≡ stopped why }
     ensures leads { ServesTo result }
+    ensures unrung { is_rung result ≡ false }
 {
     Phase::Stopped(StopCause::Fault(VringEpollError::HandleEventBackendHandling(why)))
 }
@@ -33,6 +36,7 @@ pub(crate) fn refusal(fault: PutFault) -> Why
 pub(crate) fn handled(said: &DeviceSaid) -> Phase
     ensures phase { result ≡ after_heard said.now }
     ensures sound { IsSound result }
+    ensures unrung { is_rung result ≡ false }
     ensures host { ¬ IsHostStop result }
     ensures device { (before now : ℕ) → IsCounted before now said.now → IsDeviceStop result → Rose before now }
 {
@@ -46,6 +50,7 @@ pub(crate) fn handled(said: &DeviceSaid) -> Phase
 pub(crate) fn serving_of(queues: Queues) -> Phase
     ensures same { result ≡ serving queues }
     ensures leads { ServesTo result }
+    ensures unrung { is_rung result ≡ false }
 {
     if queues.is_empty() {
         Phase::Idle
@@ -58,20 +63,40 @@ pub(crate) fn serving_of(queues: Queues) -> Phase
 pub(crate) fn serving_rest(queues: Queues) -> Phase
     ensures same { result ≡ serving (drop 1 queues) }
     ensures leads { ServesTo result }
+    ensures unrung { is_rung result ≡ false }
 {
     let mut rest = queues;
     rest.drop_first();
     serving_of(rest)
 }
 
-/// The queues with these event numbers, in order, in the memory of the numbers.
-pub(crate) fn queues_at(queues: &[u32], numbers: Pending) -> Queues
+/// Makes room for a list of these queues.
+///
+/// # Errors
+/// Want of memory leaves the room as it was.
+pub(crate) fn make_room(
+    alloc: Global,
+    room: &mut Vec<u32>,
+    queues: &[u32],
+) -> Result<(), OutOfMemory>
+    ensures { OnOk result (length queues.now ≤ length room.new.items) }
+{
+    if room.len() < queues.len() {
+        *room = Vec::from_slice(alloc, queues)?;
+    }
+    Ok(())
+}
+
+/// The queues with these event numbers, in order, in this room, which each of the queues has. Takes no memory.
+pub(crate) fn queues_at(queues: &[u32], numbers: Pending, room: Vec<u32>) -> Queues
+    requires { length queues.now ≤ length room.items }
     ensures { result ≡ queues_numbered queues.now numbers }
 {
-    let mut due = numbers.into_vec();
+    let mut rest = numbers;
+    let mut due = room;
     let mut kept = 0;
-    for at in 0..due.len() {
-        let number = due[at] as usize;
+    while let Some(number) = rest.take_first() {
+        let number = number as usize;
         if number < queues.len() {
             due[kept] = queues[number];
             kept += 1;

@@ -95,7 +95,7 @@ impl<L: DirtyLog> GuestMemory<L> {
     /// `Empty` where its length is 0, `PastObject` where it passes the end of its content or there is none, `Wraps`
     /// where it passes address 2^64 - 1, `Overlap` where it shares an address with a region of the table. Want of
     /// memory.
-    pub fn insert_region(&mut self, region: Region) -> Result<(), MemError>
+    pub fn insert_region(&mut self, _alloc: Global, region: Region) -> Result<(), MemError>
         ensures refused { IfSome (insert_fault self.old.guest.contents self.old.guest.regions region)
             (λ e. result ≡ Err e) }
         ensures only { IfErr result (λ e.
@@ -228,7 +228,7 @@ impl<L: DirtyLog> GuestMemory<L> {
     }
 
     /// Puts a content under a number that none has.
-    pub fn put_object(&mut self, object: u32, bytes: Bytes) -> Result<(), MemError>
+    pub fn put_object(&mut self, _alloc: Global, object: u32, bytes: Bytes) -> Result<(), MemError>
         requires { AllByRecursion (λ c. c.object ≢ object) self.old.guest.contents }
         ensures only { OnErr result (result ≡ Err MemError.OutOfMemory) }
         ensures ok { OnOk result (self.new ≡ record self.old {
@@ -247,7 +247,7 @@ impl<L: DirtyLog> GuestMemory<L> {
     ///
     /// # Errors
     /// Want of memory alone.
-    pub fn put_log(&mut self, object: u32, log: L) -> Result<(), MemError>
+    pub fn put_log(&mut self, _alloc: Global, object: u32, log: L) -> Result<(), MemError>
         requires { AllByRecursion (λ s. s.object ≢ object) self.old.logs }
         ensures only { OnErr result (result ≡ Err MemError.OutOfMemory) }
         ensures ok { OnOk result (self.new ≡ record self.old

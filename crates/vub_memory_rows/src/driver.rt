@@ -19,7 +19,7 @@ const LAYOUT: Layout = Layout {
 fn memory(alloc: Global) -> Result<GuestMemory<()>, Fail> {
     let bytes = vec![in alloc; 0; 0x100000]?;
     let mut memory = GuestMemory::new(alloc);
-    memory.put_object(0, Bytes::from_vec(bytes))?;
+    memory.put_object(alloc, 0, Bytes::from_vec(bytes))?;
     let mut table = Vec::new(alloc);
     table.push(Region {
         start: 0x100000,

@@ -39,7 +39,7 @@ fn guest_memory(
     regions: &[(u64, u64, u64)],
 ) -> Result<GuestMemory<()>, Fail> {
     let mut memory = GuestMemory::new(alloc);
-    memory.put_object(0, content(alloc, second)?)?;
+    memory.put_object(alloc, 0, content(alloc, second)?)?;
     let mut table = Vec::new(alloc);
     for (start, len, offset) in regions {
         table.push(Region {

@@ -117,12 +117,12 @@ fn memory<L: DirtyLog>(
     len: u64,
 ) -> Result<GuestMemory<L>, Fail> {
     let mut memory = GuestMemory::new(alloc);
-    memory.put_object(7, Bytes::from_vec(vec![in alloc; 0u8; 0x10000]?))?;
+    memory.put_object(alloc, 7, Bytes::from_vec(vec![in alloc; 0u8; 0x10000]?))?;
     if !memory.has_log(3) {
-        memory.put_log(3, log)?;
+        memory.put_log(alloc, 3, log)?;
     }
     if 0 < len {
-        memory.insert_region(region(start, len))?;
+        memory.insert_region(alloc, region(start, len))?;
     }
     Ok(memory)
 }

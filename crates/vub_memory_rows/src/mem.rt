@@ -15,7 +15,7 @@ fn memory(alloc: Global) -> Result<GuestMemory<()>, MemError> {
         return Err(MemError::OutOfMemory);
     };
     let mut memory = GuestMemory::new(alloc);
-    memory.put_object(7, Bytes::from_vec(zeros))?;
+    memory.put_object(alloc, 7, Bytes::from_vec(zeros))?;
     Ok(memory)
 }
 
@@ -91,9 +91,9 @@ fn a_table_is_refused_by_its_first_fault(rt: HostRuntime) -> Result<(), Fail> {
 #[test]
 fn regions_are_put_in_by_order_and_taken_out_by_name(rt: HostRuntime) -> Result<(), Fail> {
     let mut memory = memory(rt.alloc())?;
-    memory.insert_region(region(0x2000, 0x1000, 0))?;
-    memory.insert_region(region(0, 0x1000, 0))?;
-    memory.insert_region(region(0x1fff, 1, 0))?;
+    memory.insert_region(rt.alloc(), region(0x2000, 0x1000, 0))?;
+    memory.insert_region(rt.alloc(), region(0, 0x1000, 0))?;
+    memory.insert_region(rt.alloc(), region(0x1fff, 1, 0))?;
     for (other, answer) in [
         (region(0x2fff, 2, 0), Err(MemError::Overlap)),
         (region(0x1ffe, 2, 0), Err(MemError::Overlap)),
@@ -101,7 +101,7 @@ fn regions_are_put_in_by_order_and_taken_out_by_name(rt: HostRuntime) -> Result<
         (region(0x3000, 0, 0), Err(MemError::Empty)),
         (region(u64::MAX, 1, 0), Err(MemError::Wraps)),
     ] {
-        assert_eq!(rt; memory.insert_region(other), answer);
+        assert_eq!(rt; memory.insert_region(rt.alloc(), other), answer);
     }
     assert_eq!(rt;
         memory.remove_region(0x1fff, 2),

@@ -98,8 +98,8 @@ fn memory(alloc: Global, case: &Case, used_event: u8) -> Result<GuestMemory<()>,
     let first = first_object(alloc, case, used_event)?;
     let second = second_object(alloc)?;
     let mut memory = GuestMemory::new(alloc);
-    memory.put_object(0, first)?;
-    memory.put_object(1, second)?;
+    memory.put_object(alloc, 0, first)?;
+    memory.put_object(alloc, 1, second)?;
     memory.replace_table(table(alloc, 0x4000)?)?;
     Ok(memory)
 }

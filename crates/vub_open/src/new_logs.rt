@@ -26,7 +26,7 @@ fn put_log(
         Object::Event { .. } | Object::Content(_) => Ok(()),
         // A valid set-up has no log of length 0, so that want of memory is the only error.
         Object::Log { len } => match PlainLog::new(alloc, *len as u64) {
-            Ok(log) => match memory.put_log(number, log) {
+            Ok(log) => match memory.put_log(alloc, number, log) {
                 Ok(()) => Ok(()),
                 Err(_) => Err(OutOfMemory),
             },

@@ -37,7 +37,7 @@ fn put_content(
         Object::Event { .. } | Object::Log { .. } => Ok(()),
         Object::Content(bytes) => {
             let bytes = Bytes::from_slice(alloc, bytes.as_slice())?;
-            match memory.put_object(number, bytes) {
+            match memory.put_object(alloc, number, bytes) {
                 Ok(()) => Ok(()),
                 Err(_) => Err(OutOfMemory),
             }

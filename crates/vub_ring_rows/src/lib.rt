@@ -2,6 +2,8 @@
 #![tactic(auto)]
 
 #[cfg(test)]
+mod numbers_said;
+#[cfg(test)]
 mod open;
 #[cfg(test)]
 mod ring;

@@ -1,3 +1,4 @@
+use crate::numbers_said::numbers_said;
 use crate::ring_booked::Booked;
 use std::alloc::Global;
 use std::test::Fail;
@@ -7,7 +8,7 @@ use vub_mem::{GuestMemory, Region};
 use vub_model::{Entry, RingOp, RingSaid};
 use vub_queue::QueueError;
 use vub_ring::{
-    KickSaid, PartsError, PendOp, PendSaid, Pending, PutSaid, TableRing, TableRingSaid, VringState,
+    KickSaid, PartsError, PendOp, Pending, PutSaid, TableRing, TableRingSaid, VringState,
     play_kick, play_pend, play_put, play_ring, play_table,
 };
 
@@ -170,7 +171,7 @@ fn memory_of(alloc: Global) -> Result<GuestMemory<()>, Fail> {
     store(&mut bytes, 0x1002, &[1, 0]);
     store(&mut bytes, 0x3000, b"hello");
     let mut memory = GuestMemory::new(alloc);
-    memory.put_object(0, Bytes::from_vec(bytes))?;
+    memory.put_object(alloc, 0, Bytes::from_vec(bytes))?;
     memory.replace_table(vec![in alloc;
         Region {
             start: START,
@@ -279,13 +280,16 @@ fn use_without_room_for_an_op_writes_nothing(rt: HostRuntime) -> Result<(), Fail
 fn pending_set_is_played(rt: HostRuntime) -> Result<(), Fail> {
     let alloc = rt.alloc();
     let mut pending = Pending::new(alloc);
-    for number in [5, 3, 9, 3] {
+    for number in [5, 63, 3, 9, 64, 3] {
         play_pend(alloc, &mut pending, PendOp::Insert(number))?;
     }
     play_pend(alloc, &mut pending, PendOp::Remove(9))?;
-    match play_pend(alloc, &mut pending, PendOp::TakeAll)? {
-        PendSaid::All(numbers) => assert_eq!(rt; numbers.as_slice(), [3, 5].as_slice()),
-        PendSaid::Done => assert!(rt; false),
-    }
+    let said = play_pend(alloc, &mut pending, PendOp::TakeAll)?;
+    assert_eq!(rt;
+        numbers_said(said),
+        [Some(3), Some(5), Some(63), Some(64), None]
+    );
+    let said = play_pend(alloc, &mut pending, PendOp::TakeAll)?;
+    assert_eq!(rt; numbers_said(said), [None; 5]);
     Ok(())
 }

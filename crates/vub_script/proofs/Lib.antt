@@ -1,5 +1,3 @@
-pub mod Digits
-pub mod Trees
+pub mod LoneMember
 pub mod Texts
-pub mod Refusals
 pub mod Served

@@ -5,14 +5,14 @@ use Rattle.serde_json.specs.Find.{as_object, get}
 use Rattle.vub_dir.specs.Building.{first_fault}
 use Rattle.vub_dir.specs.declared.entry.TreeEntry.{TreeEntry}
 use Rattle.vub_script.specs.declared.draft.Draft.{Draft}
-use Rattle.vub_script.specs.declared.refusal.Refusal.{Refusal}
-use Rattle.vub_script.specs.declared.refusal.Refusal.TheVariants.{NoScript, OutOfMemory}
+use Rattle.vub_forms.specs.declared.refusal.Refusal.{Refusal}
+use Rattle.vub_forms.specs.declared.refusal.Refusal.TheVariants.{NoScript, OutOfMemory}
 use Rattle.vub_script.specs.declared.service_form.ServiceForm.{ServiceForm}
 use Rattle.vub_script.specs.declared.service_form.ServiceForm.TheVariants.{Echo, Dir, Block}
-use Rattle.vub_script.specs.Reading.{◌>>=◌, Gives, given, or_default}
-use Rattle.vub_script.specs.Keys.{has_form}
+use Rattle.vub_forms.specs.Reading.{◌>>=◌, Gives, given, or_default}
+use Rattle.vub_forms.specs.Keys.{has_form}
 use Rattle.vub_script.specs.Disks.{is_disk_key, is_disk, disk_of}
-use Rattle.vub_script.specs.Keys.{object_keys_are}
+use Rattle.vub_forms.specs.Keys.{object_keys_are}
 use Rattle.vub_script.specs.Directory.{is_served, entries_of, directory_of, service_form, service_of}
 use Rattle.std.specs.Str.{bytes_eq}
 use Rattle.vub_model.specs.declared.setup.GivenRegion.{GivenRegion}
@@ -21,14 +21,14 @@ use Rattle.vub_model.specs.declared.setup.Guest.{Guest}
 use Rattle.vub_proto.specs.declared.request.Request.{Request}
 use Rattle.vub_script.specs.declared.device_form.DeviceForm.{DeviceForm}
 use Rattle.vub_script.specs.declared.draft.ObjectDraft.{ObjectDraft}
-use Rattle.vub_script.specs.Numbers.{number_of, u32_of}
-use Rattle.vub_script.specs.Hexadecimal.{bytes_of}
-use Rattle.vub_script.specs.Lists.{list_of}
+use Rattle.vub_forms.specs.Numbers.{number_of, u32_of}
+use Rattle.vub_forms.specs.Hexadecimal.{bytes_of}
+use Rattle.vub_forms.specs.Lists.{list_of}
 use Rattle.vub_script.specs.Objects.{lone_member, object_of}
-use Rattle.vub_script.specs.Regions.{region_of}
-use Rattle.vub_script.specs.Rings.{ring_of}
-use Rattle.vub_script.specs.Requests.{request_of}
-use Rattle.vub_script.specs.Guest.{guest_of}
+use Rattle.vub_forms.specs.Regions.{region_of}
+use Rattle.vub_forms.specs.Rings.{ring_of}
+use Rattle.vub_forms.specs.Requests.{request_of}
+use Rattle.vub_forms.specs.Guest.{guest_of}
 use Rattle.vub_script.specs.Draft.{device_of, fields_of}
 
 abbrev Fine : ServiceForm → Type 0

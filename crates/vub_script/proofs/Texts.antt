@@ -5,7 +5,7 @@ use Rattle.std.specs.Str.{IsUtf8, is_utf8}
 use Rattle.std.proofs.lemmas.Str.{is_utf8-from_IsUtf8, IsUtf8-from_is_utf8}
 use Rattle.serde_json.specs.Data.{Data}
 use Rattle.serde_json.specs.Read.{read}
-use Rattle.vub_script.specs.Reading.{◌>>=◌}
+use Rattle.vub_forms.specs.Reading.{◌>>=◌}
 use Rattle.vub_script.specs.Draft.{draft_of_tree}
 use Rattle.vub_script.specs.Script.{read_draft}
 

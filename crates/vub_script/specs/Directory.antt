@@ -9,12 +9,12 @@ use Rattle.vub_dir.specs.Building.{first_fault}
 use Rattle.vub_dir.specs.declared.entry.TreeEntry.{TreeEntry}
 use Rattle.vub_script.specs.declared.service_form.ServiceForm.{ServiceForm}
 use Rattle.vub_script.specs.declared.service_form.ServiceForm.TheVariants.{Echo, Dir, Block}
-use Rattle.vub_script.specs.Reading.{◌>>=◌}
-use Rattle.vub_script.specs.Hexadecimal.{bytes_of}
+use Rattle.vub_forms.specs.Reading.{◌>>=◌}
+use Rattle.vub_forms.specs.Hexadecimal.{bytes_of}
 use Rattle.vub_script.specs.Disks.{is_disk_key, is_disk, disk_of}
-use Rattle.vub_script.specs.Keys.{object_keys_are}
-use Rattle.vub_script.specs.Leaves.{is_text}
-use Rattle.vub_script.specs.Lists.{items_list}
+use Rattle.vub_forms.specs.Keys.{object_keys_are}
+use Rattle.vub_forms.specs.Leaves.{is_text}
+use Rattle.vub_forms.specs.Lists.{items_list}
 use Rattle.vub_script.specs.Objects.{lone_member}
 
 abbrev pub is_file_key : List ℕ → Bool

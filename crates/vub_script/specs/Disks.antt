@@ -6,9 +6,9 @@ use Rattle.serde_json.specs.Find.{get}
 use Rattle.vub_block.specs.Disk.{new_fault}
 use Rattle.vub_script.specs.declared.service_form.ServiceForm.{ServiceForm}
 use Rattle.vub_script.specs.declared.service_form.ServiceForm.TheVariants.{Block}
-use Rattle.vub_script.specs.Reading.{◌>>=◌, given}
-use Rattle.vub_script.specs.Hexadecimal.{bytes_of}
-use Rattle.vub_script.specs.Numbers.{u32_of}
+use Rattle.vub_forms.specs.Reading.{◌>>=◌, given}
+use Rattle.vub_forms.specs.Hexadecimal.{bytes_of}
+use Rattle.vub_forms.specs.Numbers.{u32_of}
 
 abbrev pub is_disk_key : List ℕ → Bool
 is_disk_key k = bytes_eq k (codes "block") || bytes_eq k (codes "id")

@@ -5,18 +5,18 @@ use Rattle.serde_json.specs.Find.{get}
 use Rattle.vub_script.specs.declared.device_form.DeviceForm.{DeviceForm}
 use Rattle.vub_script.specs.declared.service_form.ServiceForm.TheVariants.{Echo}
 use Rattle.vub_script.specs.declared.draft.Draft.{Draft}
-use Rattle.vub_script.specs.Reading.{◌>>=◌, or_default}
-use Rattle.vub_script.specs.Numbers.{number_of, u32_of}
-use Rattle.vub_script.specs.Hexadecimal.{bytes_of}
-use Rattle.vub_script.specs.Leaves.{or_null}
-use Rattle.vub_script.specs.Lists.{list_of}
+use Rattle.vub_forms.specs.Reading.{◌>>=◌, or_default}
+use Rattle.vub_forms.specs.Numbers.{number_of, u32_of}
+use Rattle.vub_forms.specs.Hexadecimal.{bytes_of}
+use Rattle.vub_forms.specs.Leaves.{or_null}
+use Rattle.vub_forms.specs.Lists.{list_of}
 use Rattle.vub_script.specs.Objects.{object_of}
-use Rattle.vub_script.specs.Regions.{region_of}
-use Rattle.vub_script.specs.Rings.{ring_of}
-use Rattle.vub_script.specs.Requests.{request_of}
-use Rattle.vub_script.specs.Guest.{guest_of}
+use Rattle.vub_forms.specs.Regions.{region_of}
+use Rattle.vub_forms.specs.Rings.{ring_of}
+use Rattle.vub_forms.specs.Requests.{request_of}
+use Rattle.vub_forms.specs.Guest.{guest_of}
 use Rattle.vub_script.specs.Directory.{service_of}
-use Rattle.vub_script.specs.Keys.{has_form}
+use Rattle.vub_forms.specs.Keys.{has_form}
 use Rattle.vub_script.specs.Bitmaps.{bitmap_of}
 use Rattle.vub_script.specs.declared.device_form.BitmapForm.TheVariants.{None as NoPages}
 

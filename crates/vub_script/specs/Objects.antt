@@ -5,9 +5,9 @@ use Rattle.serde_json.specs.Data.{Data, Members, no_members, member}
 use Rattle.serde_json.specs.Find.{as_object}
 use Rattle.vub_script.specs.declared.draft.ObjectDraft.{ObjectDraft}
 use Rattle.vub_script.specs.declared.draft.ObjectDraft.TheVariants.{Event, Zeros, Content, Log}
-use Rattle.vub_script.specs.Reading.{◌>>=◌}
-use Rattle.vub_script.specs.Numbers.{number_of, u32_of}
-use Rattle.vub_script.specs.Hexadecimal.{bytes_of}
+use Rattle.vub_forms.specs.Reading.{◌>>=◌}
+use Rattle.vub_forms.specs.Numbers.{number_of, u32_of}
+use Rattle.vub_forms.specs.Hexadecimal.{bytes_of}
 
 -- one member, and no other
 abbrev pub lone_member : Members → Option (List ℕ × Data)

@@ -11,7 +11,7 @@ use Rattle.vub_script.specs.declared.draft.Draft.{Draft}
 use Rattle.vub_script.specs.declared.draft.ObjectDraft.{ObjectDraft}
 use Rattle.vub_script.specs.declared.draft.ObjectDraft.TheVariants as draft
 use Rattle.vub_script.specs.declared.script.Script.{Script}
-use Rattle.vub_script.specs.Reading.{◌>>=◌}
+use Rattle.vub_forms.specs.Reading.{◌>>=◌}
 use Rattle.vub_script.specs.Draft.{draft_of_tree}
 
 -- What the bytes say: a JSON text in UTF-8 (RFC 8259, as the crate serde_json reads it: the last of equal keys counts)

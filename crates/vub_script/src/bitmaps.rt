@@ -1,13 +1,9 @@
 ghost use Rattle.vub_script.specs.Bitmaps.{bitmap_of};
 
 use crate::device_form::BitmapForm;
-use crate::fault::Fault;
-use crate::leaves::is_the_text;
-use crate::refusal::Refusal;
-use crate::rule::Rule;
-use crate::tree::FromTree;
 use serde_json::Value;
 use std::alloc::Global;
+use vub_forms::{Fault, FromTree, Refusal, Rule, is_the_text};
 
 impl FromTree for BitmapForm {
     ghost reads = { bitmap_of };

@@ -4,19 +4,16 @@ ghost use Rattle.std.specs.Prelude.{◌≡◌, string_bytes};
 ghost use Rattle.std.specs.List.{list_all};
 ghost use Rattle.std.specs.BTreeMap.{keys};
 ghost use Rattle.serde_json.specs.View.{view};
-ghost use Rattle.vub_script.specs.Reading.{Gives};
-ghost use Rattle.vub_script.specs.Keys.{object_keys_are};
+ghost use Rattle.vub_forms.specs.Reading.{Gives};
+ghost use Rattle.vub_forms.specs.Keys.{object_keys_are};
 ghost use Rattle.vub_script.specs.Disks.{is_disk_key, disk_of};
 
-use crate::fault::Fault;
-use crate::refusal::Refusal;
-use crate::rule::Rule;
 use crate::service_form::ServiceForm;
-use crate::tree::part_given;
 use serde_json::{Map, Value};
 use std::alloc::Global;
 use vub_base::Bytes;
 use vub_block::disk_fault;
+use vub_forms::{Fault, Refusal, Rule, part_given};
 
 fn has_only_disk_keys(map: &Map<String, Value>) -> bool
     ensures { result ≡ list_all (λ k. is_disk_key (string_bytes k)) (keys map.now) }

@@ -5,19 +5,16 @@ ghost use Rattle.std.specs.List.{list_all};
 ghost use Rattle.std.specs.BTreeMap.{keys};
 ghost use Rattle.serde_json.specs.View.{view};
 ghost use Rattle.serde_json.specs.Find.{as_array};
-ghost use Rattle.vub_script.specs.Reading.{Gives};
-ghost use Rattle.vub_script.specs.Keys.{object_keys_are};
-ghost use Rattle.vub_script.specs.Lists.{items_list};
+ghost use Rattle.vub_forms.specs.Reading.{Gives};
+ghost use Rattle.vub_forms.specs.Keys.{object_keys_are};
+ghost use Rattle.vub_forms.specs.Lists.{items_list};
 ghost use Rattle.vub_script.specs.Directory.{is_file_key, is_directory_key, name_of, inside_of, with_file, with_directory, with_entry, with_entries, entries_of};
 
-use crate::fault::Fault;
-use crate::refusal::Refusal;
-use crate::rule::Rule;
-use crate::tree::part_given;
 use serde_json::{Map, Value};
 use std::alloc::Global;
 use vub_base::{Bytes, Listed};
 use vub_dir::TreeEntry;
+use vub_forms::{Fault, Refusal, Rule, part_given};
 
 /// Directories nest less deep than this.
 const DEPTH: u32 = 65;

@@ -1,15 +1,12 @@
 ghost use Rattle.std.specs.Prelude.{◌≡◌, option_map};
 ghost use Rattle.serde_json.specs.View.{view, members_view};
-ghost use Rattle.vub_script.specs.Reading.{Gives};
+ghost use Rattle.vub_forms.specs.Reading.{Gives};
 ghost use Rattle.vub_script.specs.Objects.{lone_member, object_form, object_of};
 
 use crate::draft::ObjectDraft;
-use crate::fault::Fault;
-use crate::refusal::Refusal;
-use crate::rule::Rule;
-use crate::tree::{FromTree, member_at};
 use serde_json::{Map, Value};
 use std::alloc::Global;
+use vub_forms::{Fault, FromTree, Refusal, Rule, member_at};
 
 /// The only member, where there is one and no other.
 pub fn lone_member_of(map: &Map<String, Value>) -> Option<(&str, &Value)>

@@ -1,15 +1,13 @@
 ghost use Rattle.std.specs.Prelude.{◌≡◌, true, IfOk};
 ghost use Rattle.vub_script.specs.Directory.{is_served};
-ghost use Rattle.vub_script.specs.Reading.{Gives};
+ghost use Rattle.vub_forms.specs.Reading.{Gives};
 ghost use Rattle.vub_script.specs.Script.{read_draft};
 
 use crate::draft::Draft;
-use crate::fault::Fault;
-use crate::refusal::Refusal;
-use crate::rule::Rule;
 use crate::whole::draft_from;
 use serde_json::Value;
 use std::alloc::Global;
+use vub_forms::{Fault, Refusal, Rule};
 
 /// What a text says, where it is a script: JSON in UTF-8 (RFC 8259, as the crate serde_json reads it) whose tree is
 /// in the grammar.

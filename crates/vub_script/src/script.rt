@@ -5,13 +5,13 @@ ghost use Rattle.vub_script.specs.Script.{is_within, script_from};
 
 use crate::device_form::DeviceForm;
 use crate::limits::is_within_limits;
-use crate::refusal::Refusal;
 use crate::service_form::ServiceForm;
 use crate::whole::draft_from;
 use crate::write_out::script_of_draft;
 use serde_json::Value;
 use std::alloc::Global;
 use vub_base::{Listed, OutOfMemory};
+use vub_forms::Refusal;
 use vub_model::Setup;
 
 /// What a script says, written out.

@@ -1,21 +1,17 @@
 //! The service that a script asks for.
 
 ghost use Rattle.serde_json.specs.View.{view};
-ghost use Rattle.vub_script.specs.Reading.{Gives};
+ghost use Rattle.vub_forms.specs.Reading.{Gives};
 ghost use Rattle.vub_script.specs.Directory.{directory_of, service_form, service_of};
 
 use crate::disks::{disk_from, is_in_disk_form};
 use crate::entries::entries_from;
-use crate::fault::Fault;
-use crate::leaves::is_the_text;
 use crate::objects::lone_member_of;
-use crate::refusal::Refusal;
-use crate::rule::Rule;
 use crate::service_form::ServiceForm;
-use crate::tree::FromTree;
 use serde_json::Value;
 use std::alloc::Global;
 use vub_dir::{Tree, TreeError};
+use vub_forms::{Fault, FromTree, Refusal, Rule, is_the_text};
 
 /// The directory service of these entries, if they make a tree.
 #[tactic(auto, unfolding(crate::specs::Directory::directory_of))]

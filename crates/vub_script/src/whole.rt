@@ -1,18 +1,16 @@
 ghost use Rattle.std.specs.Prelude.{◌≡◌, true, IfOk};
 ghost use Rattle.serde_json.specs.View.{view};
-ghost use Rattle.vub_script.specs.Reading.{Gives};
+ghost use Rattle.vub_forms.specs.Reading.{Gives};
 ghost use Rattle.vub_script.specs.Directory.{is_served};
 ghost use Rattle.vub_script.specs.Draft.{device_of, fields_of, draft_of_tree};
 
 use crate::device_form::{BitmapForm, DeviceForm};
 use crate::draft::Draft;
-use crate::keys::{is_in_form, script_fault};
-use crate::refusal::Refusal;
 use crate::service_form::ServiceForm;
-use crate::tree::part_or;
 use serde_json::Value;
 use std::alloc::Global;
 use vub_base::{Bytes, Listed};
+use vub_forms::{Refusal, is_in_form, part_or, script_fault};
 
 /// The features that a device offers where the script does not say: VIRTIO_F_VERSION_1 (bit 32),
 /// VHOST_USER_F_PROTOCOL_FEATURES (30), VIRTIO_RING_F_EVENT_IDX (29) and VHOST_F_LOG_ALL (26).

@@ -2,7 +2,8 @@ ghost use Rattle.std.specs.Prelude.{◌≡◌, ◌++◌, OnOk, string_bytes};
 ghost use Rattle.vub_text.specs.Answers.{memory_number, log_number, request_cause_text, refusal_name, detail_text, refusal_text, listener_name, object_text, answer_text};
 ghost use Rattle.vub_text.specs.Lines.{answer_line, answer_lines};
 
-use crate::hexadecimal::hex_of;
+use crate::hexadecimal::push_hex;
+use crate::pieces::push_number;
 use std::alloc::Global;
 use vub_base::OutOfMemory;
 use vub_mem::{LogError, MemError};
@@ -43,15 +44,9 @@ fn push_request_cause(text: &mut String, cause: Cause) -> Result<(), OutOfMemory
     ensures { OnOk result (string_bytes text.new ≡ string_bytes text.old ++ request_cause_text cause) }
 {
     match cause {
-        Cause::Device(number) => write!(text, " device {number}")?,
-        Cause::Memory(refusal) => {
-            let number = number_of_memory(refusal);
-            write!(text, " memory {number}")?
-        }
-        Cause::Log(refusal) => {
-            let number = number_of_log(refusal);
-            write!(text, " log {number}")?
-        }
+        Cause::Device(number) => push_number(text, " device ", number)?,
+        Cause::Memory(refusal) => push_number(text, " memory ", number_of_memory(refusal))?,
+        Cause::Log(refusal) => push_number(text, " log ", number_of_log(refusal))?,
         Cause::Host => {}
     }
     Ok(())
@@ -108,28 +103,31 @@ fn push_object(text: &mut String, object: Option<u32>) -> Result<(), OutOfMemory
     ensures { OnOk result (string_bytes text.new ≡ string_bytes text.old ++ object_text object) }
 {
     match object {
-        Some(object) => write!(text, "{object}")?,
+        Some(object) => push_number(text, "", object)?,
         None => text.push_str("-")?,
     }
     Ok(())
 }
 
 #[tactic(auto, using(std::proofs::Common::append_assoc), unfolding(crate::specs::Answers::answer_text))]
-fn push_answer(alloc: Global, text: &mut String, answer: &Answer) -> Result<(), OutOfMemory>
+fn push_answer(text: &mut String, answer: &Answer) -> Result<(), OutOfMemory>
     ensures { OnOk result (string_bytes text.new ≡ string_bytes text.old ++ answer_text answer.now) }
 {
     match answer {
         Answer::Ok => text.push_str("ok")?,
-        Answer::Number(number) => write!(text, "ok {number}")?,
+        Answer::Number(number) => push_number(text, "ok ", *number)?,
         Answer::Content(bytes) => {
-            let bytes = hex_of(alloc, bytes.as_slice())?;
-            write!(text, "content {bytes}")?
+            text.push_str("content ")?;
+            push_hex(text, bytes.as_slice())?
         }
         Answer::Object(object) => {
             text.push_str("object ")?;
             push_object(text, *object)?
         }
-        Answer::Base { index, num } => write!(text, "base {index} {num}")?,
+        Answer::Base { index, num } => {
+            push_number(text, "base ", *index)?;
+            push_number(text, " ", *num)?
+        }
         Answer::Failed(refusal) => push_refusal(text, *refusal)?,
         Answer::Listener(refusal) => text.push_str(name_of_listener(*refusal))?,
     }
@@ -142,15 +140,16 @@ fn push_answer(alloc: Global, text: &mut String, answer: &Answer) -> Result<(), 
 /// Want of memory. The text may then end within the line.
 #[tactic(auto, using(std::proofs::Common::append_assoc), unfolding(crate::specs::Lines::answer_line))]
 pub fn push_answer_line(
-    alloc: Global,
+    _alloc: Global,
     text: &mut String,
     number: usize,
     answer: &Answer,
 ) -> Result<(), OutOfMemory>
     ensures { OnOk result (string_bytes text.new ≡ string_bytes text.old ++ answer_line number answer.now) }
 {
-    write!(text, "answer {number} ")?;
-    push_answer(alloc, text, answer)?;
+    push_number(text, "answer ", number)?;
+    text.push_str(" ")?;
+    push_answer(text, answer)?;
     text.push_str("\n")?;
     Ok(())
 }

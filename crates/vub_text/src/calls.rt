@@ -3,6 +3,7 @@ ghost use Rattle.vub_text.specs.Calls.{device_name, outcome_text};
 ghost use Rattle.vub_text.specs.Lines.{device_line};
 
 use crate::lines::Line;
+use crate::pieces::push_number;
 use std::alloc::Global;
 use vub_base::OutOfMemory;
 use vub_model::DeviceCall;
@@ -38,12 +39,15 @@ fn word_of_outcome(refused: bool) -> &'static str
 impl Line for DeviceCall {
     ghost line = { device_line };
 
-    #[tactic(auto, unfolding(crate::specs::Lines::device_line))]
+    #[tactic(auto, using(std::proofs::Common::append_assoc), unfolding(crate::specs::Lines::device_line))]
     fn push_line(&self, _alloc: Global, text: &mut String) -> Result<(), OutOfMemory> {
-        let DeviceCall { a, b, .. } = self;
-        let name = name_of_call(&self.op);
-        let outcome = word_of_outcome(self.refused);
-        writeln!(text, "device {name} {a} {b} {outcome}")?;
+        text.push_str("device ")?;
+        text.push_str(name_of_call(&self.op))?;
+        push_number(text, " ", self.a)?;
+        push_number(text, " ", self.b)?;
+        text.push_str(" ")?;
+        text.push_str(word_of_outcome(self.refused))?;
+        text.push_str("\n")?;
         Ok(())
     }
 }

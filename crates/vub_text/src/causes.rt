@@ -3,6 +3,7 @@ ghost use Rattle.vub_text.specs.Words.{damage_name, why_text, fault_name, reason
 ghost use Rattle.vub_text.specs.Lines.{stop_line};
 
 use crate::lines::Line;
+use crate::pieces::push_number;
 use std::alloc::Global;
 use vub_base::OutOfMemory;
 use vub_model::{Stop, StopCause, VringEpollError, Why};
@@ -33,7 +34,7 @@ fn push_why(text: &mut String, why: Why) -> Result<(), OutOfMemory>
         Why::Damage(damage) => text.push_str(name_of(damage))?,
         Why::RoomOutside => text.push_str("RoomOutside")?,
         Why::RingOutside => text.push_str("RingOutside")?,
-        Why::Device(number) => write!(text, "device {number}")?,
+        Why::Device(number) => push_number(text, "device ", number)?,
     }
     Ok(())
 }
@@ -100,8 +101,8 @@ impl Line for Stop {
 
     #[tactic(auto, using(std::proofs::Common::append_assoc), unfolding(crate::specs::Lines::stop_line))]
     fn push_line(&self, _alloc: Global, text: &mut String) -> Result<(), OutOfMemory> {
-        let worker = self.worker;
-        write!(text, "stop {worker} ")?;
+        push_number(text, "stop ", self.worker)?;
+        text.push_str(" ")?;
         push_cause(text, self.cause)?;
         text.push_str("\n")?;
         Ok(())

@@ -1,13 +1,15 @@
 ghost use Rattle.std.specs.Prelude.{◌≡◌, ◌++◌, OnOk, string_bytes};
 ghost use Rattle.vub_text.specs.Lines.{take_place, take_content, take_line, use_place, use_content, use_line};
 
-use crate::hexadecimal::hex_of;
+use crate::hexadecimal::push_hex;
 use crate::lines::Line;
+use crate::pieces::push_number;
 use std::alloc::Global;
 use vub_base::OutOfMemory;
 use vub_model::Take;
 use vub_proto::Used;
 
+#[tactic(auto, using(std::proofs::Common::append_assoc))]
 fn push_take_place(text: &mut String, take: &Take) -> Result<(), OutOfMemory>
     ensures { OnOk result (string_bytes text.new ≡ string_bytes text.old ++ take_place take.now) }
 {
@@ -18,16 +20,20 @@ fn push_take_place(text: &mut String, take: &Take) -> Result<(), OutOfMemory>
         head,
         ..
     } = take;
-    write!(text, "take {queue} {epoch} {number} head {head}")?;
-    Ok(())
+    push_number(text, "take ", *queue)?;
+    push_number(text, " ", *epoch)?;
+    push_number(text, " ", *number)?;
+    push_number(text, " head ", *head)
 }
 
-fn push_take_content(alloc: Global, text: &mut String, take: &Take) -> Result<(), OutOfMemory>
+#[tactic(auto, using(std::proofs::Common::append_assoc))]
+fn push_take_content(text: &mut String, take: &Take) -> Result<(), OutOfMemory>
     ensures { OnOk result (string_bytes text.new ≡ string_bytes text.old ++ take_content take.now) }
 {
-    let request = hex_of(alloc, take.request.as_slice())?;
-    let room = take.room;
-    writeln!(text, " request {request} room {room}")?;
+    text.push_str(" request ")?;
+    push_hex(text, take.request.as_slice())?;
+    push_number(text, " room ", take.room)?;
+    text.push_str("\n")?;
     Ok(())
 }
 
@@ -35,12 +41,13 @@ impl Line for Take {
     ghost line = { take_line };
 
     #[tactic(auto, using(std::proofs::Common::append_assoc), unfolding(crate::specs::Lines::take_line))]
-    fn push_line(&self, alloc: Global, text: &mut String) -> Result<(), OutOfMemory> {
+    fn push_line(&self, _alloc: Global, text: &mut String) -> Result<(), OutOfMemory> {
         push_take_place(text, self)?;
-        push_take_content(alloc, text, self)
+        push_take_content(text, self)
     }
 }
 
+#[tactic(auto, using(std::proofs::Common::append_assoc))]
 fn push_use_place(text: &mut String, used: &Used) -> Result<(), OutOfMemory>
     ensures { OnOk result (string_bytes text.new ≡ string_bytes text.old ++ use_place used.now) }
 {
@@ -51,16 +58,20 @@ fn push_use_place(text: &mut String, used: &Used) -> Result<(), OutOfMemory>
         head,
         ..
     } = used;
-    write!(text, "use {queue} {epoch} {number} head {head}")?;
-    Ok(())
+    push_number(text, "use ", *queue)?;
+    push_number(text, " ", *epoch)?;
+    push_number(text, " ", *number)?;
+    push_number(text, " head ", *head)
 }
 
-fn push_use_content(alloc: Global, text: &mut String, used: &Used) -> Result<(), OutOfMemory>
+#[tactic(auto, using(std::proofs::Common::append_assoc))]
+fn push_use_content(text: &mut String, used: &Used) -> Result<(), OutOfMemory>
     ensures { OnOk result (string_bytes text.new ≡ string_bytes text.old ++ use_content used.now) }
 {
-    let length = used.reply.len();
-    let reply = hex_of(alloc, used.reply.as_slice())?;
-    writeln!(text, " length {length} reply {reply}")?;
+    push_number(text, " length ", used.reply.len())?;
+    text.push_str(" reply ")?;
+    push_hex(text, used.reply.as_slice())?;
+    text.push_str("\n")?;
     Ok(())
 }
 
@@ -68,8 +79,8 @@ impl Line for Used {
     ghost line = { use_line };
 
     #[tactic(auto, using(std::proofs::Common::append_assoc), unfolding(crate::specs::Lines::use_line))]
-    fn push_line(&self, alloc: Global, text: &mut String) -> Result<(), OutOfMemory> {
+    fn push_line(&self, _alloc: Global, text: &mut String) -> Result<(), OutOfMemory> {
         push_use_place(text, self)?;
-        push_use_content(alloc, text, self)
+        push_use_content(text, self)
     }
 }

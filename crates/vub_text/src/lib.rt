@@ -8,6 +8,7 @@ mod entries;
 mod hexadecimal;
 mod lines;
 mod logs;
+mod pieces;
 mod places;
 mod printed;
 mod summary;

@@ -1,6 +1,7 @@
 ghost use Rattle.std.specs.Prelude.{◌≡◌, ◌≤◌, ◌<◌, ◌*◌, ◌^◌, ◌++◌, length, sum_by, IfOk, OnOk, string_bytes};
 ghost use Rattle.vub_text.specs.Text.{reply_total, summary_counts, summary_end, summary_text};
 
+use crate::pieces::push_number;
 use crate::turns::word_of;
 use std::alloc::Global;
 use vub_base::{Bytes, OutOfMemory};
@@ -18,22 +19,24 @@ fn reply_total(uses: &[Used]) -> u128
     total
 }
 
+#[tactic(auto, using(std::proofs::Common::append_assoc))]
 fn push_counts(text: &mut String, count: u32, run: &Run) -> Result<(), OutOfMemory>
     ensures { OnOk result (string_bytes text.new ≡ string_bytes text.old ++ summary_counts count run.now) }
 {
-    let turns = run.labels.len();
-    let takes = run.takes.len();
-    write!(text, "make {count} turns {turns} takes {takes}")?;
-    Ok(())
+    push_number(text, "make ", count)?;
+    push_number(text, " turns ", run.labels.len())?;
+    push_number(text, " takes ", run.takes.len())
 }
 
+#[tactic(auto, using(std::proofs::Common::append_assoc))]
 fn push_end(text: &mut String, run: &Run) -> Result<(), OutOfMemory>
     ensures { OnOk result (string_bytes text.new ≡ string_bytes text.old ++ summary_end run.now) }
 {
-    let uses = run.uses.len();
-    let bytes = reply_total(run.uses.as_slice());
-    let rest = word_of(run.rest);
-    writeln!(text, " uses {uses} bytes {bytes} rest {rest}")?;
+    push_number(text, " uses ", run.uses.len())?;
+    push_number(text, " bytes ", reply_total(run.uses.as_slice()))?;
+    text.push_str(" rest ")?;
+    text.push_str(word_of(run.rest))?;
+    text.push_str("\n")?;
     Ok(())
 }
 

@@ -2,6 +2,7 @@ ghost use Rattle.std.specs.Prelude.{◌≡◌, ◌++◌, OnOk, string_bytes, cou
 ghost use Rattle.vub_text.specs.Words.{yes_no};
 ghost use Rattle.vub_text.specs.Lines.{is_played, turns_line};
 
+use crate::pieces::push_number;
 use vub_base::OutOfMemory;
 use vub_model::Label;
 
@@ -36,7 +37,7 @@ pub fn word_of(holds: bool) -> &'static str
 ///
 /// # Errors
 /// Want of memory. The text may then end within the line.
-#[tactic(auto, unfolding(crate::specs::Lines::turns_line))]
+#[tactic(auto, using(std::proofs::Common::append_assoc), unfolding(crate::specs::Lines::turns_line))]
 pub fn push_turns_line(
     text: &mut String,
     labels: &[Label],
@@ -44,9 +45,10 @@ pub fn push_turns_line(
 ) -> Result<(), OutOfMemory>
     ensures { OnOk result (string_bytes text.new ≡ string_bytes text.old ++ turns_line labels.now at_rest) }
 {
-    let turns = labels.len();
-    let played = count_played(labels);
-    let rest = word_of(at_rest);
-    writeln!(text, "turns {turns} played {played} rest {rest}")?;
+    push_number(text, "turns ", labels.len())?;
+    push_number(text, " played ", count_played(labels))?;
+    text.push_str(" rest ")?;
+    text.push_str(word_of(at_rest))?;
+    text.push_str("\n")?;
     Ok(())
 }

@@ -36,7 +36,11 @@ fn filled(list: Vec<Region>, regions: &[Region]) -> Listed<Region>
 }
 
 /// Changes the table.
-fn change<L: DirtyLog>(memory: &mut GuestMemory<L>, op: TableOp) -> Result<(), MemError>
+fn change<L: DirtyLog>(
+    alloc: Global,
+    memory: &mut GuestMemory<L>,
+    op: TableOp,
+) -> Result<(), MemError>
     ensures ok { OnOk result (table_refusal memory.old.guest op ≡ None) }
     ensures changed { OnOk result (memory.new ≡ record memory.old
         { guest = record memory.old.guest { regions = regions_after memory.old.guest.regions op } }) }
@@ -45,7 +49,7 @@ fn change<L: DirtyLog>(memory: &mut GuestMemory<L>, op: TableOp) -> Result<(), M
 {
     match op {
         TableOp::Replace(regions) => memory.replace_table(regions.into_vec()),
-        TableOp::Insert(region) => memory.insert_region(region),
+        TableOp::Insert(region) => memory.insert_region(alloc, region),
         TableOp::Remove { start, len } => match memory.remove_region(start, len) {
             Ok(_) => Ok(()),
             Err(error) => Err(error),
@@ -71,7 +75,7 @@ pub fn play_memory<L: DirtyLog>(
     let Ok(list) = Vec::with_capacity(alloc, room_for(memory, &op)) else {
         return Err(PartsError::OutOfMemory);
     };
-    match change(memory, op) {
+    match change(alloc, memory, op) {
         Ok(()) => Ok(TableSaid::Regions(filled(list, memory.regions()))),
         Err(MemError::OutOfMemory) => Err(PartsError::OutOfMemory),
         Err(error) => Ok(TableSaid::Memory(error)),

@@ -1,4 +1,4 @@
-//! Tests of the calls of vub_loop, vub_requests and vub_core.
+//! Tests of the calls of vub_loop and vub_core.
 #![tactic(auto)]
 
 #[cfg(test)]
@@ -7,5 +7,3 @@ mod driving;
 mod loops;
 #[cfg(test)]
 mod refused;
-#[cfg(test)]
-mod requests;

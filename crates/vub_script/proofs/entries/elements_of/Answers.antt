@@ -1,5 +1,5 @@
 use Rattle.std.proofs.Common.{refl}
-use Rattle.vub_script.proofs.Trees.{elements_of_array}
+use Rattle.vub_forms.proofs.Trees.{elements_of_array}
 use Rattle.vub_script.proofs.entries.elements_of.Goals as goal
 
 pub returns-in-Array : goal.returns-in-Array

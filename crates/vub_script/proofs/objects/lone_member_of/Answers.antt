@@ -1,5 +1,5 @@
 use Rattle.std.proofs.Common.{sym, ◌∙◌}
-use Rattle.vub_script.proofs.Trees.{lone_none, lone_some}
+use Rattle.vub_script.proofs.LoneMember.{lone_none, lone_some}
 use Rattle.vub_script.proofs.objects.lone_member_of.Goals as goal
 
 pub returns-then-len-ne1 : goal.returns-then-len-ne1

@@ -15,7 +15,7 @@ loop-init g c = (
 
 pub loop-preserved : goal.loop-preserved
 loop-preserved g c =
-    let is = ap has_queues (sym c.phase.ensures) ∙ sym c.has_queues.ensures ∙ c.if-not-has_queues.false in (
+    let is = ap has_queues (sym c.phase.ensures.same) ∙ sym c.has_queues.ensures ∙ c.if-not-has_queues.false in (
       turns-more (meaning g.P.Service.Service.reply_of g.P.Service.Service.after) (telling g.P.Device.VhostUserBackendMut.said g.P.Device.VhostUserBackendMut.moved)
           has_queues c.args.self.now c.loop.self c.serve_on.new.self (g.P.Parts.state c.args.parts.now) (g.P.Parts.state c.loop.parts) (g.P.Parts.state c.serve_on.new.parts)
           c.loop.invariant.0 is c.serve_on.ensures.turn,
@@ -26,4 +26,4 @@ pub returns-in_err-serve_on-clause-turns : goal.returns-in_err-serve_on-clause-t
 returns-in_err-serve_on-clause-turns g c =
     turns-more (meaning g.P.Service.Service.reply_of g.P.Service.Service.after) (telling g.P.Device.VhostUserBackendMut.said g.P.Device.VhostUserBackendMut.moved)
     has_queues c.args.self.now c.loop.self c.serve_on.new.self (g.P.Parts.state c.args.parts.now) (g.P.Parts.state c.loop.parts) (g.P.Parts.state c.serve_on.new.parts)
-    c.loop.invariant.0 (ap has_queues (sym c.phase.ensures) ∙ sym c.has_queues.ensures ∙ c.if-not-has_queues.false) c.serve_on.ensures.turn
+    c.loop.invariant.0 (ap has_queues (sym c.phase.ensures.same) ∙ sym c.has_queues.ensures ∙ c.if-not-has_queues.false) c.serve_on.ensures.turn

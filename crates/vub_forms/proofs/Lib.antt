@@ -1,0 +1,4 @@
+pub mod Digits
+pub mod Trees
+pub mod Refusals
+pub mod HexBytes

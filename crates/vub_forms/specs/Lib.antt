@@ -1,0 +1,14 @@
+pub mod Refused
+pub mod Reading
+pub mod Numbers
+pub mod Hexadecimal
+pub mod Leaves
+pub mod Lists
+pub mod Regions
+pub mod Keys
+pub mod Rings
+pub mod Arguments
+pub mod Guest
+pub mod Calls
+pub mod Parts
+pub mod Requests

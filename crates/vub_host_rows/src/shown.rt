@@ -1,0 +1,16 @@
+//! How values are shown.
+use std::alloc::{AllocError, Global};
+use std::error::Error;
+use std::fmt::Debug;
+
+/// Adds a line with the value, as its `Debug` shows it.
+pub fn show<T: Debug>(alloc: Global, lines: &mut String, value: &T) -> Result<(), AllocError> {
+    let line = format!(in alloc; "{value:?}\n")?;
+    lines.push_str(line.as_str())
+}
+
+/// Adds a line with the text of an error.
+pub fn tell<E: Error>(alloc: Global, lines: &mut String, error: &E) -> Result<(), AllocError> {
+    let line = format!(in alloc; "{error}\n")?;
+    lines.push_str(line.as_str())
+}

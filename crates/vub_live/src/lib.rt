@@ -1,0 +1,11 @@
+//! The program over running threads: a daemon serves the entries of a guest in memory, by as many workers as queues.
+#![tactic(auto)]
+
+mod guest;
+mod live;
+mod lived;
+mod words;
+
+pub use guest::{live_device, queue_content, push_queue, push_table};
+pub use live::{LiveJob, await_used, furnish, run_live};
+pub use lived::{Lived, complaint_of};

@@ -1,0 +1,5 @@
+//! Tests of the calls of vub_requests.
+#![tactic(auto)]
+
+#[cfg(test)]
+mod requests;

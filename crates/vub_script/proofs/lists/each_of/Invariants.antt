@@ -1,8 +1,0 @@
-use Rattle.std.proofs.Common.{◌≡◌, map}
-use Rattle.serde_json.specs.View.{view}
-use Rattle.vub_script.specs.Lists.{each}
-use Rattle.vub_script.proofs.Trees.{onward}
-use Rattle.vub_script.proofs.lists.each_of.Given as goal
-
-abbrev pub invariant-loop-number : goal.invariant-loop-number
-invariant-loop-number g l = onward g.T.FromTree.reads l.found l.number l.list ≡ each g.T.FromTree.reads (map view l.list)

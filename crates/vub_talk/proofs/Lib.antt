@@ -1,0 +1,6 @@
+pub mod Refusing
+pub mod Accepting
+pub mod Asked
+pub mod Batching
+pub mod Collected
+pub mod Valid

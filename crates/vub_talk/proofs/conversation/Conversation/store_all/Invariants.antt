@@ -1,0 +1,11 @@
+use Rattle.std.proofs.Common.{◌≡◌, length}
+use Rattle.vub_mem.specs.Place.{content_of}
+use Rattle.vub_talk.proofs.conversation.Conversation.store_all.Given as goal
+
+abbrev pub invariant-loop-span : goal.invariant-loop-span
+invariant-loop-span l =
+    record {
+      bytes : length (content_of l.self.memory.guest.contents 0) ≡ length (content_of l.initial.self.memory.guest.contents 0);
+      regions : l.self.memory.guest.regions ≡ l.initial.self.memory.guest.regions;
+      driver : l.self.driver ≡ l.initial.self.driver;
+    }

@@ -1,0 +1,14 @@
+use Rattle.std.proofs.Common.{◌≡◌, length, take}
+use Rattle.vub_mem.specs.Place.{content_of}
+use Rattle.vub_talk.specs.Asking.{HasMoved}
+use Rattle.vub_talk.specs.Batches.{asks_stored}
+use Rattle.vub_talk.proofs.conversation.Conversation.submit_all.Given as goal
+
+abbrev pub invariant-loop-ask : goal.invariant-loop-ask
+invariant-loop-ask l =
+    record {
+      driver : HasMoved l.ask-index 0 l.initial.self.driver l.self.driver;
+      regions : l.self.memory.guest.regions ≡ l.initial.self.memory.guest.regions;
+      bytes : length (content_of l.self.memory.guest.contents 0) ≡ length (content_of l.initial.self.memory.guest.contents 0);
+      guest : l.guest ≡ asks_stored l.layout l.number (take l.ask-index l.asks);
+    }

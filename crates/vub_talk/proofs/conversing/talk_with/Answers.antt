@@ -1,0 +1,131 @@
+use Rattle.std.proofs.Common.{rules, ◌≡◌, ◌⊎◌, inl, inr, ℕ, ◌+◌, ◌-◌, ◌*◌, ◌^◌, ◌<◌, ◌≤◌, List, [], ◌∷◌, ◌++◌, length, map, take, drop, None, sym, ap, ap₂, subst, ◌∙◌, arith}
+use Rattle.std.specs.List.{range_with_len}
+use Rattle.vub_mem.specs.Place.{content_of}
+use Rattle.vub_model.specs.ValidSetup.{fault_of}
+use Rattle.vub_model.specs.declared.setup.Guest.TheVariants.{Signal}
+use Rattle.vub_driver.specs.Places.{half_of}
+use Rattle.vub_driver.specs.View.{IsFit}
+use Rattle.vub_driver.specs.declared.done.Done.{Done}
+use Rattle.vub_driver.specs.declared.layout.Layout.{Layout}
+use Rattle.vub_talk.specs.declared.ask.Ask.{Ask}
+use Rattle.vub_talk.specs.Asking.{AreSmall, Covers, region}
+use Rattle.vub_talk.specs.Batches.{asks_stored, batch_setup}
+use Rattle.vub_talk.specs.Machine.{constants_in, fixed}
+use Rattle.vub_talk.proofs.Asked.{range-more}
+use Rattle.vub_talk.proofs.Batching.{size_taken, aligned_taken, small_asks, lies_asks, covers_layout, small-drop, small-take, part-length, length-zeros}
+use Rattle.vub_talk.proofs.Refusing.{fit_taken}
+use Rattle.vub_talk.proofs.Valid.{few_masks, valid}
+use Rattle.vub_talk.proofs.conversing.talk_with.Goals as goal
+
+pub overflow_cast-parties : goal.overflow_cast-parties
+overflow_cast-parties g c = omega (arith, few_masks c.args.constants.now c.args.layout.now c.requires.device, c.len.ensures)
+
+pub overflow_add-parties : goal.overflow_add-parties
+overflow_add-parties g c = omega (arith, few_masks c.args.constants.now c.args.layout.now c.requires.device, c.len.ensures)
+
+pub loop-done-init : goal.loop-done-init
+loop-done-init g c =
+    let fit : IsFit c.args.layout.now = fit_taken c.args.layout.now c.requires.layout in
+    let some : 0 < half_of c.args.layout.now = fit.some in
+    record {
+      layout = ap (λ s. s.layout) c.requires.driver;
+      event_idx = ap (λ s. s.event_idx) c.requires.driver;
+      submitted = ap (λ s. s.submitted) c.requires.driver;
+      collected = ap (λ s. s.collected) c.requires.driver;
+      regions = ap (λ m. m.regions) c.in_ok-memory.ensures;
+      bytes = ap (λ m. length (content_of m.contents 0)) c.in_ok-memory.ensures ∙ length-zeros 1048576;
+      numbers = ap (map (λ (d : Done). d.number)) c.new.ensures;
+      calls = ap length c.new-2.ensures;
+      within = omega arith;
+      reached = omega arith;
+      close = omega (arith, some);
+      whole = λ more. omega arith;
+    }
+
+pub talk_batch-requires-clause-small : goal.talk_batch-requires-clause-small
+talk_batch-requires-clause-small g c =
+    let l = c.args.layout.now in
+    small-take l (c.loop-done.done + c.next_count-count.result - c.loop-done.done) (drop c.loop-done.done c.args.asks.now) (small-drop l c.loop-done.done c.args.asks.now (small_asks l c.args.asks.now c.requires.asks))
+
+pub talk_batch-requires-clause-may : goal.talk_batch-requires-clause-may
+talk_batch-requires-clause-may g c =
+    let l = c.args.layout.now in
+    let asks : List Ask = c.args.asks.now in
+    let so = c.loop-done.invariant in
+    let s = c.loop-done.conversation.driver in
+    let rs = c.loop-done.conversation.memory.guest.regions in
+    let i = c.loop-done.done in
+    let k = c.next_count-count.result in
+    let its = c.next_count-count.ensures in
+    let below : i < length asks = search rules in
+    let small : length asks < 2 ^ 64 = search rules in
+    let half : c.from-half.result ≡ half_of l = c.from-half.ensures in
+    let left : k ≤ length asks - i = search rules in
+    let long : length (take (i + k - i) (drop i asks)) ≡ k = part-length asks i k (omega (arith, left, below)) in
+    let fits : half_of s.layout ≡ half_of l = ap half_of so.layout in
+    record {
+      fit = subst IsFit (sym so.layout) (fit_taken l c.requires.layout);
+      plain = so.event_idx;
+      free = omega (arith, so.submitted, so.collected, long, its.most, half, fits);
+      counted = omega (arith, so.submitted, long, left, below, small);
+      covered = subst (λ x. Covers x s.layout) (sym so.regions) (subst (Covers (region ∷ [])) (sym so.layout) (covers_layout l (lies_asks l asks c.requires.asks)));
+    }
+
+pub talk_batch-requires-clause-valid : goal.talk_batch-requires-clause-valid
+talk_batch-requires-clause-valid g c =
+    let l = c.args.layout.now in
+    let asks : List Ask = c.args.asks.now in
+    let so = c.loop-done.invariant in
+    let s = c.loop-done.conversation.driver in
+    let content : List ℕ = content_of c.loop-done.conversation.memory.guest.contents 0 in
+    let i = c.loop-done.done in
+    let k = c.next_count-count.result in
+    let part : List Ask = take (i + k - i) (drop i asks) in
+    let below : i < length asks = search rules in
+    let left : k ≤ length asks - i = search rules in
+    let half : c.from-half.result ≡ half_of l = c.from-half.ensures in
+    let long : length part ≡ k = part-length asks i k (omega (arith, left, below)) in
+    let small : AreSmall l part = small-take l (i + k - i) (drop i asks) (small-drop l i asks (small_asks l asks c.requires.asks)) in
+    let P : Layout → Type 0 = λ x. fault_of (constants_in (fixed c.args.constants.now)) (batch_setup x s.submitted content (asks_stored x s.submitted part ++ Signal 1 ∷ [])) ≡ None in
+    subst P (sym so.layout)
+    (valid c.args.constants.now l s.submitted content part c.requires.layout (size_taken l c.requires.layout) (aligned_taken l c.requires.layout) (lies_asks l asks c.requires.asks) c.requires.device so.bytes small
+    (omega (arith, long, c.next_count-count.ensures.most, half)))
+
+pub loop-done-preserved : goal.loop-done-preserved
+loop-done-preserved g c =
+    let l = c.args.layout.now in
+    let asks : List Ask = c.args.asks.now in
+    let so = c.loop-done.invariant in
+    let its = c.in_ok-talk_batch.ensures in
+    let i = c.loop-done.done in
+    let k = c.next_count-count.result in
+    let part : List Ask = take (i + k - i) (drop i asks) in
+    let below : i < length asks = search rules in
+    let left : k ≤ length asks - i = search rules in
+    let cases : (k ≡ half_of l) ⊎ (k ≡ length asks - i) = search rules in
+    let half : c.from-half.result ≡ half_of l = c.from-half.ensures in
+    let most : k ≤ half_of l = omega (arith, c.next_count-count.ensures.most, half) in
+    let fit : IsFit l = fit_taken l c.requires.layout in
+    let some : 0 < half_of l = fit.some in
+    let long : length part ≡ k = part-length asks i k (omega (arith, left, below)) in
+    let here : i ≡ c.loop-done.batch * half_of l = so.whole below in
+    let more : 0 < k = elim cases as (λ _. 0 < k) [ inl full ↦ omega (arith, full, some) | inr last ↦ omega (arith, last, below) ] in
+    let first : i ≡ 0 + i = omega arith in
+    record {
+      layout = its.driver.layout ∙ so.layout;
+      event_idx = its.driver.event_idx ∙ so.event_idx;
+      submitted = omega (arith, its.driver.submitted, so.submitted, long);
+      collected = omega (arith, its.driver.collected, so.collected, long);
+      regions = its.regions ∙ so.regions;
+      bytes = its.bytes ∙ so.bytes;
+      numbers =
+          its.answers
+          ∙ ap₂ (λ xs n. xs ++ range_with_len n (length part)) so.numbers (so.collected ∙ first)
+          ∙ ap (λ n. range_with_len 0 i ++ range_with_len (0 + i) n) long
+          ∙ sym (range-more 0 i k);
+      calls = its.calls ∙ ap (λ n. n + 1) so.calls;
+      within = omega (arith, left, below);
+      reached = omega (arith, here, most);
+      close = omega (arith, here, more);
+      whole = λ rest. elim cases as (λ _. i + k ≡ (c.loop-done.batch + 1) * half_of l) [ inl full ↦ omega (arith, full, here) | inr last ↦ absurd (omega (arith, last, rest, below)) ];
+    }

@@ -1,0 +1,6 @@
+pub mod Asking
+pub mod Batches
+pub mod Faults
+pub mod Late
+pub mod Machine
+pub mod Talked

@@ -1,0 +1,113 @@
+//! One batch of a conversation.
+ghost use Rattle.std.specs.Prelude.{◌≡◌, ◌+◌, ◌++◌, ◌∷◌, [], length, None, IfOk, IfErr, OnOk};
+ghost use Rattle.vub_mem.specs.Place.{content_of};
+ghost use Rattle.vub_model.specs.ValidSetup.{fault_of};
+ghost use Rattle.vub_talk.specs.Asking.{AreSmall, HasMoved, MaySubmit, NumbersOn};
+ghost use Rattle.vub_talk.specs.Late.{IsLate};
+ghost use Rattle.vub_talk.specs.Machine.{constants_in, fixed, setup_for};
+
+use crate::ask::Ask;
+use crate::constants::{CALL, MEMORY};
+use crate::conversation::Conversation;
+use crate::fault::TalkFault;
+use crate::talk::Talk;
+use std::alloc::Global;
+use vub_base::{Listed, OutOfMemory};
+use vub_core::drive;
+use vub_driver::Layout;
+use vub_model::{Constants, Count, DriveFault, Run, Setup};
+use vub_proto::{FixedDevice, Service};
+
+/// A device of these constants.
+///
+/// # Errors
+/// Want of memory.
+fn device_of(alloc: Global, constants: &Constants) -> Result<FixedDevice, OutOfMemory>
+    ensures { IfOk result (λ d. d ≡ fixed constants.now) }
+{
+    Ok(FixedDevice {
+        queues: constants.queues,
+        max: constants.max,
+        features: constants.features,
+        protocol: constants.protocol,
+        masks: Listed::from_slice(alloc, constants.masks.as_slice())?,
+        exits: Listed::from_slice(alloc, constants.exits.as_slice())?,
+        refusals: 0,
+    })
+}
+
+/// Plays the set-up of a batch to its rest.
+///
+/// # Errors
+/// `NotAtRest`, and want of memory.
+fn play<V: Service>(
+    alloc: Global,
+    setup: &Setup,
+    device: &mut FixedDevice,
+    service: &mut V,
+    schedule: &[u32],
+    batch: u64,
+) -> Result<Run, TalkFault>
+    requires { fault_of (constants_in device.old) setup.now ≡ None }
+    ensures only { IfErr result IsLate }
+{
+    match drive(alloc, setup, device, service, schedule) {
+        Ok(run) => {
+            if run.rest {
+                Ok(run)
+            } else {
+                Err(TalkFault::NotAtRest { batch })
+            }
+        }
+        Err(DriveFault::Setup(fault)) => Err(TalkFault::Setup(fault)),
+        Err(DriveFault::OutOfMemory { .. }) => Err(TalkFault::OutOfMemory),
+    }
+}
+
+/// The count of the call.
+fn calls_in(counts: &[Count]) -> u64 {
+    match counts.iter().find(|count| count.object == CALL) {
+        Some(count) => count.count,
+        None => 0,
+    }
+}
+
+/// Plays one batch: the guest submits the asks, the machine serves them, and the driver collects the replies.
+///
+/// # Errors
+/// `NotAtRest`, and want of memory.
+pub(crate) fn talk_batch<V: Service>(
+    alloc: Global,
+    conversation: &mut Conversation,
+    layout: &Layout,
+    asks: &[Ask],
+    constants: &Constants,
+    service: &mut V,
+    schedule: &[u32],
+    batch: u64,
+    talk: &mut Talk,
+) -> Result<(), TalkFault>
+    requires layout { layout.now ≡ conversation.old.driver.layout }
+    requires may { MaySubmit conversation.old.driver conversation.old.memory.guest.regions (length asks.now) }
+    requires small { AreSmall layout.now asks.now }
+    requires valid { fault_of (constants_in (fixed constants.now))
+        (setup_for conversation.old.driver conversation.old.memory.guest asks.now) ≡ None }
+    ensures driver { OnOk result
+        (HasMoved (length asks.now) (length asks.now) conversation.old.driver conversation.new.driver) }
+    ensures regions { OnOk result
+        (conversation.new.memory.guest.regions ≡ conversation.old.memory.guest.regions) }
+    ensures bytes { OnOk result (length (content_of conversation.new.memory.guest.contents 0)
+        ≡ length (content_of conversation.old.memory.guest.contents 0)) }
+    ensures answers { OnOk result (NumbersOn conversation.old.driver.collected (length asks.now)
+        talk.old.answers talk.new.answers) }
+    ensures calls { OnOk result (length talk.new.calls ≡ length talk.old.calls + 1) }
+    ensures only { IfErr result IsLate }
+{
+    let setup = conversation.submit_all(alloc, layout, asks)?;
+    let mut device = device_of(alloc, constants)?;
+    let run = play(alloc, &setup, &mut device, service, schedule, batch)?;
+    conversation.store_all(run.written.as_slice());
+    conversation.collect_all(alloc, asks.len(), &mut talk.answers, batch)?;
+    talk.calls.push(calls_in(run.counts.as_slice()))?;
+    Ok(())
+}
