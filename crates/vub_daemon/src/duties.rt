@@ -10,6 +10,7 @@ use vub_attend::{Closer, Link, attend};
 use vub_handler::VhostUserHandler;
 use vub_locks::{Gate, LockedParts, Spent};
 use vub_loop::VringEpollHandler;
+use vub_mem::BitmapReplace;
 use vub_model::{Opened, Phase, Stop, StopCause, VringEpollError};
 use vub_proto::{Service, VhostUserBackendMut, VhostUserError};
 use vub_threads::{Job, StdTask, start_job};
@@ -181,6 +182,7 @@ pub fn start_daemon_job<
 ) -> Result<StdTask<R, DaemonJob<R, D, V, G, K>>, DaemonJob<R, D, V, G, K>>
 where
     D::Bitmap: Send + 'static,
+    <D::Bitmap as BitmapReplace>::InnerBitmap: Send + 'static,
     K::Closer: Send + 'static,
     ensures { Started (Promised (λ j e. ends_as j.duty e ≡ true)) (λ j e. ends_as j.duty e ≡ true) job result }
 {
