@@ -1,19 +1,16 @@
 //! What the threads of a daemon run.
 ghost use Rattle.std.specs.Prelude.{◌≡◌, true};
 ghost use Rattle.vub_daemon.specs.Duties.{ends_as, is_link_end};
-ghost use Rattle.vub_threads.specs.Tasks.{Promised, Started};
 
 use std::alloc::Global;
 use std::sync::{Arc, Mutex, Wait};
-use std::thread::Threads;
 use vub_attend::{Closer, Link, attend};
 use vub_handler::VhostUserHandler;
 use vub_locks::{Gate, LockedParts, Spent};
 use vub_loop::VringEpollHandler;
-use vub_mem::BitmapReplace;
 use vub_model::{Opened, Phase, Stop, StopCause, VringEpollError};
 use vub_proto::{Service, VhostUserBackendMut, VhostUserError};
-use vub_threads::{Job, StdTask, start_job};
+use vub_threads::Job;
 
 /// What a control thread is given beside its parts: the session, which all control threads of a daemon share one after
 /// the other, and its link.
@@ -47,7 +44,7 @@ pub struct DaemonJob<
     pub duty: Duty<K>,
 }
 
-// What lies in a job crosses to its thread. They are said here, so that a caller's search for them ends here.
+// What lies in a job crosses to its thread.
 unsafe impl<
     R: Wait + Copy + Send,
     D: VhostUserBackendMut + Send,
@@ -162,29 +159,4 @@ impl<R: Wait + Copy, D: VhostUserBackendMut, V: Service, G: Gate + Drop, K: Link
             Duty::Control(control) => { DaemonEnd::Control(run_control(rt, alloc, parts, control)) }
         }
     }
-}
-
-/// Starts a job of a daemon in a thread of std, or hands it back. A program gives its daemon a `CallSpawner` over this
-/// call.
-///
-/// # Errors
-/// The job, where no thread can be made, or for want of memory.
-pub fn start_daemon_job<
-    R: Threads + Wait + Copy + Send + 'static,
-    D: VhostUserBackendMut + Send + 'static,
-    V: Service + Send + 'static,
-    G: Gate + Drop + Send + Sync + 'static,
-    K: Link + Drop + Send + 'static,
->(
-    rt: R,
-    alloc: Global,
-    job: DaemonJob<R, D, V, G, K>,
-) -> Result<StdTask<R, DaemonJob<R, D, V, G, K>>, DaemonJob<R, D, V, G, K>>
-where
-    D::Bitmap: Send + 'static,
-    <D::Bitmap as BitmapReplace>::InnerBitmap: Send + 'static,
-    K::Closer: Send + 'static,
-    ensures { Started (Promised (λ j e. ends_as j.duty e ≡ true)) (λ j e. ends_as j.duty e ≡ true) job result }
-{
-    start_job(rt, alloc, job)
 }

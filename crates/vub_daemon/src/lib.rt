@@ -16,7 +16,7 @@ mod verdicts;
 
 pub use connection::ShutdownHandle;
 pub use daemon::VhostUserDaemon;
-pub use duties::{Control, DaemonEnd, DaemonJob, Duty, WorkerEnd, start_daemon_job};
+pub use duties::{Control, DaemonEnd, DaemonJob, Duty, WorkerEnd};
 pub use ends::Report;
 pub use error::Error;
 pub use verdicts::{serve_verdict, wait_verdict};

@@ -18,8 +18,11 @@ const LENGTH: u64 = 0x8000;
 /// Where the available ring, the used ring, the requests and the replies begin in each content; the descriptor table
 /// begins at 0.
 const AVAILABLE: u64 = 0x1000;
+
 const USED: u64 = 0x2000;
+
 const REQUESTS: u64 = 0x3000;
+
 const REPLIES: u64 = 0x4000;
 
 /// Where the index of the used ring lies in each content.
@@ -27,6 +30,7 @@ pub(crate) const USED_INDEX: u64 = 0x2002;
 
 /// The flags of a descriptor with a following one, and of one that the device writes (virtio 1.2, section 2.7.5).
 const NEXT: u16 = 1;
+
 const WRITE: u16 = 2;
 
 /// The guest address, and that of the front end, at which the content of a queue begins.

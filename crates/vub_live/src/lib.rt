@@ -6,6 +6,6 @@ mod live;
 mod lived;
 mod words;
 
-pub use guest::{live_device, queue_content, push_queue, push_table};
+pub use guest::{live_device, push_queue, push_table, queue_content};
 pub use live::{LiveJob, await_used, furnish, run_live};
 pub use lived::{Lived, complaint_of};

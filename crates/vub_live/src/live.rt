@@ -115,11 +115,7 @@ fn await_all<R: Wait + Copy, T: Task<DaemonEnd> + Drop, S: Drop>(
 ///
 /// # Errors
 /// A control thread that was not started, only where the spawner's count rose; want of memory.
-fn start_queues<
-    R: Wait + Copy,
-    T: Task<DaemonEnd> + Drop,
-    S: Spawner<LiveJob<R>, Task = T> + Drop,
->(
+fn start_queues<R: Wait + Copy, T: Task<DaemonEnd> + Drop, S: Spawner<LiveJob<R>, Task = T> + Drop>(
     alloc: Global,
     daemon: &mut LiveDaemon<R, T, S>,
     asked: Asked,
@@ -170,10 +166,7 @@ fn play<R: Wait + Copy, T: Task<DaemonEnd> + Drop, S: Spawner<LiveJob<R>, Task =
 ///
 /// # Errors
 /// Why not all was played; a Mismatch; want of memory.
-fn reported(
-    played: Result<(), Missing>,
-    closed: Result<Report, Error>,
-) -> Result<Report, Missing>
+fn reported(played: Result<(), Missing>, closed: Result<Report, Error>) -> Result<Report, Missing>
     requires { IfErr closed IsReportError }
     ensures { (before now : ℕ) → IfErr played (IsMissing before now) → IfErr result (IsMissing before now) }
 {
@@ -188,11 +181,7 @@ fn reported(
 ///
 /// # Errors
 /// Why there is no report.
-fn report_of<
-    R: Wait + Copy,
-    T: Task<DaemonEnd> + Drop,
-    S: Spawner<LiveJob<R>, Task = T> + Drop,
->(
+fn report_of<R: Wait + Copy, T: Task<DaemonEnd> + Drop, S: Spawner<LiveJob<R>, Task = T> + Drop>(
     rt: R,
     alloc: Global,
     asked: Asked,
@@ -232,7 +221,10 @@ fn push_line(text: &mut String, asked: Asked, uses: u64) -> Result<(), OutOfMemo
 {
     let workers = asked.workers;
     let entries = total_of(asked);
-    write!(text, "workers {workers} entries {entries} uses {uses} match\n")?;
+    write!(
+        text,
+        "workers {workers} entries {entries} uses {uses} match\n"
+    )?;
     Ok(())
 }
 
@@ -278,13 +270,7 @@ pub fn run_live<
     K: Sink,
     T: Task<DaemonEnd> + Drop,
     S: Spawner<LiveJob<R>, Task = T> + Drop,
->(
-    rt: R,
-    alloc: Global,
-    words: &[String],
-    sink: &mut K,
-    spawner: S,
-) -> (Lived, S)
+>(rt: R, alloc: Global, words: &[String], sink: &mut K, spawner: S) -> (Lived, S)
     requires { S.can_spawn spawner }
     // each status and its cause
     ensures words { (result.0.status ≡ 1) ↔ (asked (map string_bytes words.now) ≡ None) }

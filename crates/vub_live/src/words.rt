@@ -46,11 +46,7 @@ fn within(most: u32, number: u32) -> Option<u32>
     ensures number { result ≡ within most number }
     ensures bound { IfSome result (λ n. n ≤ most) }
 {
-    if number <= most {
-        Some(number)
-    } else {
-        None
-    }
+    if number <= most { Some(number) } else { None }
 }
 
 /// The number from 1 to `most` that the word is.
