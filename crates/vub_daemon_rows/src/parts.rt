@@ -3,8 +3,10 @@ ghost use Rattle.std.specs.Prelude.{◌≡◌, sum_by};
 
 use crate::shown::{expect, show};
 use std::alloc::{AllocError, Global};
+use std::sync::atomic::{AtomicBool, Ordering};
 use std::sync::{Arc, Wait};
 use std::test::Fail;
+use std::thread;
 use vub_attend::ObjectParts;
 use vub_base::{Bytes, Listed, OutOfMemory};
 use vub_event::{EventSet, MemHost};
@@ -555,5 +557,82 @@ fn locked_as_owned(rt: HostRuntime) -> Result<(), Fail> {
     for said in ["Ok(Taken {", "Ok(Held(RoomOutside))", "Ok(Refused("] {
         assert!(rt; found.as_str().contains(said), "{said}");
     }
+    Ok(())
+}
+
+/// Makes a ring of the parts ready, and takes its first entry.
+fn begin<P: ObjectParts>(alloc: Global, parts: &mut P, hand: &mut Hand) -> Result<(), Fail> {
+    let mut lines = String::new(alloc);
+    furnish(alloc, &mut lines, parts)?;
+    for number in 0..14 {
+        call(alloc, &mut lines, parts, hand, number)?;
+    }
+    take(alloc, &mut lines, parts, hand, 0)?;
+    serve(alloc, &mut lines, parts, hand)?;
+    Ok(())
+}
+
+/// Says that a stop begins, and makes the ring not ready. Whether that was done.
+fn stop<P: Parts>(alloc: Global, parts: &mut P, begins: &AtomicBool) -> bool {
+    begins.store(true, Ordering::SeqCst);
+    match parts.ring(alloc, 0, RingOp::SetReady(false)) {
+        Ok(RingSaid::Done) => true,
+        _ => false,
+    }
+}
+
+/// Looks for a flag for long.
+fn look_for(flag: &AtomicBool) -> bool {
+    for _ in 0..1_000_000_000u32 {
+        if flag.load(Ordering::SeqCst) {
+            return true;
+        }
+    }
+    false
+}
+
+/// Uses the entry in hand, and adds what was said.
+fn end<P: Parts>(alloc: Global, parts: &mut P, hand: &mut Hand) -> Result<String, AllocError> {
+    let mut lines = String::new(alloc);
+    put(alloc, &mut lines, parts, hand)?;
+    Ok(lines)
+}
+
+/// What the kick of the ring says: the ring is not ready any more.
+fn kick_said<P: Parts>(alloc: Global, parts: &mut P) -> Result<String, AllocError> {
+    let mut lines = String::new(alloc);
+    kick(alloc, &mut lines, parts, 0, 0)?;
+    Ok(lines)
+}
+
+/// Whether one entry is used on the first queue.
+fn is_used<R: Wait>(rt: &R, alloc: Global, shared: &EchoParts) -> Result<bool, OutOfMemory> {
+    match shared.read_content(rt, alloc, 0, 0x2002, 2)? {
+        Some(index) => Ok(index.as_slice() == [1, 0].as_slice()),
+        None => Ok(false),
+    }
+}
+
+#[test]
+fn a_stop_waits_for_the_entry_in_flight(rt: HostRuntime) -> Result<(), Fail> {
+    let alloc: Global = rt.alloc();
+    let shared = Arc::new(alloc, shared_of(alloc)?)?;
+    expect(fill_shared(&rt, alloc, &*shared)?, "numbers of contents")?;
+    let mut first = LockedParts::new(rt, alloc, Arc::try_clone(&shared)?);
+    let mut second = LockedParts::new(rt, alloc, Arc::try_clone(&shared)?);
+    let mut hand = hand_of(alloc);
+    begin(alloc, &mut first, &mut hand)?;
+    let begins = Arc::new(alloc, AtomicBool::new(false))?;
+    let theirs = Arc::try_clone(&begins)?;
+    let Ok(stopping) = thread::spawn(&rt, move || stop(alloc, &mut second, &*theirs)) else {
+        return Err(Fail::new("no thread"));
+    };
+    let seen = look_for(&*begins);
+    let used = end(alloc, &mut first, &mut hand)?;
+    let stopped = stopping.join(&rt);
+    assert!(rt; seen && stopped);
+    assert_eq!(rt; used.as_str(), "Ok(Done)\n");
+    assert!(rt; is_used(&rt, alloc, &*shared)?);
+    assert_eq!(rt; kick_said(alloc, &mut first)?.as_str(), "Ok(Quiet)\n");
     Ok(())
 }

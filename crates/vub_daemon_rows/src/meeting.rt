@@ -1,0 +1,154 @@
+//! Two workers that are in the service at once.
+use crate::shown::expect;
+use std::alloc::Global;
+use std::sync::atomic::{AtomicBool, Ordering};
+use std::sync::{Arc, Wait};
+use std::test::Fail;
+use std::thread::Threads;
+use vub_attend::MemLink;
+use vub_base::OutOfMemory;
+use vub_daemon::{DaemonEnd, DaemonJob, VhostUserDaemon};
+use vub_jobs::start_daemon_job;
+use vub_live::{await_used, furnish, live_device};
+use vub_locks::Gate;
+use vub_proto::{Echo, FixedDevice, VhostUserError};
+use vub_threads::{Spawner, StdTask, Task};
+
+/// How often a queue looks for the other.
+const LOOKS: u32 = 1_000_000_000;
+
+/// A flag that threads share.
+type Flag = Arc<AtomicBool, Global>;
+
+/// A gate at which each of two queues sets its flag, and then waits for the other's for long. It keeps whether each has
+/// seen the other's.
+#[derive(Drop)]
+struct Meeting {
+    first: Flag,
+    second: Flag,
+    first_saw: Flag,
+    second_saw: Flag,
+}
+
+/// Sets the own flag, and looks for the other.
+fn meet(own: &AtomicBool, other: &AtomicBool, saw: &AtomicBool) {
+    own.store(true, Ordering::SeqCst);
+    for _ in 0..LOOKS {
+        if other.load(Ordering::SeqCst) {
+            saw.store(true, Ordering::SeqCst);
+            return;
+        }
+    }
+}
+
+impl Gate for Meeting {
+    fn pass(&self, queue: u32, _number: u64) {
+        if queue == 0 {
+            meet(&*self.first, &*self.second, &*self.first_saw);
+        } else {
+            meet(&*self.second, &*self.first, &*self.second_saw);
+        }
+    }
+}
+
+/// What the threads of a daemon with this gate do.
+type MeetingJob<R> = DaemonJob<R, FixedDevice, Echo, Meeting, MemLink>;
+
+/// Starts them in threads of std.
+#[derive(Drop)]
+struct MeetingSpawner<R: Threads + Wait + Copy> {
+    rt: R,
+    alloc: Global,
+    faults: u64,
+}
+
+impl<R: Threads + Wait + Copy + Send + 'static> Spawner<MeetingJob<R>> for MeetingSpawner<R> {
+    type Task = StdTask<R, MeetingJob<R>>;
+
+    ghost fault_count = { λ s. s.faults };
+
+    ghost can_spawn = { λ s. Unit };
+
+    fn faults(&self) -> u64 {
+        self.faults
+    }
+
+    fn spawn(
+        &mut self,
+        _name: &str,
+        job: MeetingJob<R>,
+    ) -> Result<StdTask<R, MeetingJob<R>>, MeetingJob<R>> {
+        match start_daemon_job(self.rt, self.alloc, job) {
+            Ok(task) => Ok(task),
+            Err(job) => {
+                self.faults = self.faults.saturating_add(1);
+                Err(job)
+            }
+        }
+    }
+}
+
+/// A daemon with this gate.
+type MeetingDaemon<R, T, S> = VhostUserDaemon<R, FixedDevice, Echo, Meeting, MemLink, T, S>;
+
+fn flag(alloc: Global) -> Result<Flag, OutOfMemory> {
+    let flag = Arc::new(alloc, AtomicBool::new(false))?;
+    Ok(flag)
+}
+
+fn gate_of(alloc: Global, first_saw: &Flag, second_saw: &Flag) -> Result<Meeting, OutOfMemory> {
+    Ok(Meeting {
+        first: flag(alloc)?,
+        second: flag(alloc)?,
+        first_saw: Arc::try_clone(first_saw)?,
+        second_saw: Arc::try_clone(second_saw)?,
+    })
+}
+
+/// Waits until an entry is used on each of two queues.
+fn await_both<R: Wait + Copy, T: Task<DaemonEnd> + Drop, S: Drop>(
+    rt: &R,
+    daemon: &MeetingDaemon<R, T, S>,
+) -> Result<bool, OutOfMemory> {
+    Ok(await_used(rt, daemon, 0, 1)? && await_used(rt, daemon, 1, 1)?)
+}
+
+/// Has a daemon serve an entry on each of two queues, and gives the number of uses.
+fn uses_of<R: Wait + Copy, T: Task<DaemonEnd> + Drop, S: Spawner<MeetingJob<R>, Task = T> + Drop>(
+    rt: R,
+    alloc: Global,
+    gate: Meeting,
+    spawner: S,
+) -> Result<u64, Fail>
+    requires { S.can_spawn spawner }
+{
+    let device = live_device(alloc, 2)?;
+    let name = String::new(alloc);
+    let made = VhostUserDaemon::new(rt, alloc, name, device, Echo, spawner, gate);
+    let Ok(mut daemon) = made else {
+        return Err(Fail::new("no daemon"));
+    };
+    let starts = furnish(alloc, &daemon, 2, 1)?;
+    let link = MemLink::new(alloc, starts, VhostUserError::SocketBroken);
+    let started = daemon.start(link).is_ok();
+    daemon.wait()?;
+    expect(started && await_both(&rt, &daemon)?, "not started")?;
+    let report = daemon.close()?;
+    Ok(report.uses)
+}
+
+#[test]
+fn gate_two_queues(rt: HostRuntime) -> Result<(), Fail> {
+    let alloc: Global = rt.alloc();
+    let first = flag(alloc)?;
+    let second = flag(alloc)?;
+    let gate = gate_of(alloc, &first, &second)?;
+    let spawner = MeetingSpawner {
+        rt,
+        alloc,
+        faults: 0,
+    };
+    assert_eq!(rt; uses_of(rt, alloc, gate, spawner)?, 2);
+    assert!(rt; first.load(Ordering::SeqCst) && second.load(Ordering::SeqCst));
+    Ok(())
+}
