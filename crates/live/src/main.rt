@@ -5,10 +5,13 @@ use std::alloc::Global;
 use std::io::ErrorKind;
 use std::process::ExitCode;
 use std::rt::Env;
+use std::sync::Wait;
+use std::thread::Threads;
 use std::{env, io};
-use vub_jobs::EchoSpawner;
-use vub_live::{complaint_of, run_live};
-use vub_stream::WriteSink;
+use vub_jobs::start_daemon_job;
+use vub_live::{Lived, LiveJob, complaint_of, run_live};
+use vub_stream::{Sink, WriteSink};
+use vub_threads::CallSpawner;
 
 /// The arguments after the program's name.
 fn words_of(rt: &(impl Env + AllocGlobal)) -> io::Result<Vec<String>> {
@@ -29,14 +32,24 @@ fn status_without_words(error: &io::Error) -> u8 {
     }
 }
 
+/// Runs with these words, in threads of std.
+fn run<R: Threads + Wait + Copy + Send + 'static, K: Sink>(
+    rt: R,
+    alloc: Global,
+    words: &[String],
+    sink: &mut K,
+) -> Lived {
+    let spawner = CallSpawner::new(|job: LiveJob<R>| start_daemon_job(rt, alloc, job));
+    let (lived, _spawner) = run_live(rt, alloc, words, sink, spawner);
+    lived
+}
+
 fn main(rt: HostRuntime) -> ExitCode {
     let alloc: Global = rt.alloc();
     let status = match words_of(&rt) {
         Ok(words) => {
             let mut sink = WriteSink::new(io::writer(&rt));
-            let spawner = EchoSpawner::new(rt, alloc);
-            let (lived, _spawner) = run_live(rt, alloc, words.as_slice(), &mut sink, spawner);
-            lived.status
+            run(rt, alloc, words.as_slice(), &mut sink).status
         }
         Err(error) => status_without_words(&error),
     };

@@ -7,15 +7,16 @@ use crate::two_queues::EchoDaemon;
 use std::alloc::Global;
 use std::sync::Wait;
 use std::test::Fail;
+use std::thread::Threads;
 use vub_attend::MemLink;
 use vub_base::OutOfMemory;
 use vub_daemon::{DaemonEnd, Error, VhostUserDaemon};
 use vub_event::HostError;
-use vub_jobs::EchoSpawner;
+use vub_jobs::start_daemon_job;
 use vub_live::{LiveJob, live_device};
 use vub_locks::NoGate;
 use vub_proto::{Echo, VhostUserError};
-use vub_threads::{Spawner, Task};
+use vub_threads::{CallSpawner, Spawner, Task};
 
 /// A daemon of so many queues, each with a worker.
 pub fn daemon_of<
@@ -148,11 +149,19 @@ fn connects_thrice<
     closes(daemon)
 }
 
+/// Three connections of a daemon in threads of std.
+fn connects_in_threads<R: Threads + Wait + Copy + Send + 'static>(
+    rt: R,
+    alloc: Global,
+) -> Result<(), Fail> {
+    let spawner = CallSpawner::new(|job: LiveJob<R>| start_daemon_job(rt, alloc, job));
+    connects_thrice(rt, alloc, spawner)
+}
+
 #[test]
 fn a_connection_ends_as_its_link_or_by_a_shutdown(rt: HostRuntime) -> Result<(), Fail> {
     let alloc: Global = rt.alloc();
-    let spawner = EchoSpawner::new(rt, alloc);
-    connects_thrice(rt, alloc, spawner)
+    connects_in_threads(rt, alloc)
 }
 
 /// Whether an exit object was signalled: its count is above 0.
@@ -178,9 +187,17 @@ fn serves_a_front_end_that_goes<
     expect(signalled, "no exit was sent")
 }
 
+/// Serves a front end that goes, in threads of std.
+fn serves_in_threads<R: Threads + Wait + Copy + Send + 'static>(
+    rt: R,
+    alloc: Global,
+) -> Result<(), Fail> {
+    let spawner = CallSpawner::new(|job: LiveJob<R>| start_daemon_job(rt, alloc, job));
+    serves_a_front_end_that_goes(rt, alloc, spawner)
+}
+
 #[test]
 fn a_front_end_that_goes_is_served(rt: HostRuntime) -> Result<(), Fail> {
     let alloc: Global = rt.alloc();
-    let spawner = EchoSpawner::new(rt, alloc);
-    serves_a_front_end_that_goes(rt, alloc, spawner)
+    serves_in_threads(rt, alloc)
 }

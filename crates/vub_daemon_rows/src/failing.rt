@@ -3,18 +3,19 @@ ghost use Rattle.std.specs.Prelude.{◌≡◌, false};
 
 use crate::connecting::{daemon_of, quiet_link};
 use crate::shown::expect;
-use crate::spawners::{Picky, Refused};
 use crate::two_queues::EchoDaemon;
 use std::alloc::Global;
 use std::sync::Wait;
 use std::test::Fail;
+use std::thread::Threads;
 use vub_attend::{Link, MemLink};
-use vub_daemon::{DaemonEnd, Error, VhostUserDaemon};
+use vub_daemon::{DaemonEnd, Duty, Error, VhostUserDaemon};
 use vub_handler::VhostUserHandlerError;
+use vub_jobs::start_daemon_job;
 use vub_live::{LiveJob, live_device};
 use vub_locks::NoGate;
 use vub_proto::{Echo, VhostUserError};
-use vub_threads::{Spawner, Task};
+use vub_threads::{CallSpawner, Spawner, Task};
 
 /// A link that can't be opened.
 fn unopened(alloc: Global) -> MemLink {
@@ -120,11 +121,30 @@ fn is_refused_all<
     Ok(spawner.faults())
 }
 
+/// Whether a job is that of a control thread.
+fn is_control<R: Wait + Copy>(job: &LiveJob<R>) -> bool {
+    matches!(job.duty, Duty::Control(_))
+}
+
+/// Has it refuse the control thread alone, and start the worker in a thread of std.
+fn is_refused_control<R: Threads + Wait + Copy + Send + 'static>(
+    rt: R,
+    alloc: Global,
+) -> Result<u64, Fail> {
+    let spawner = CallSpawner::new(|job: LiveJob<R>| {
+        if is_control(&job) {
+            Err(job)
+        } else {
+            start_daemon_job(rt, alloc, job)
+        }
+    });
+    is_refused_all(rt, alloc, spawner)
+}
+
 #[test]
 fn links_and_spawners_that_fail(rt: HostRuntime) -> Result<(), Fail> {
     let alloc: Global = rt.alloc();
-    let spawner = Picky::new(rt, alloc, Refused::Control);
-    assert_eq!(rt; is_refused_all(rt, alloc, spawner)?, 1);
+    assert_eq!(rt; is_refused_control(rt, alloc)?, 1);
     Ok(())
 }
 
@@ -146,12 +166,35 @@ fn is_not_made<R: Wait + Copy, T: Task<DaemonEnd> + Drop, S: Spawner<LiveJob<R>,
     }
 }
 
+/// Whether a job is that of the worker with this number.
+fn is_worker<R: Wait + Copy>(job: &LiveJob<R>, worker: u32) -> bool {
+    match &job.duty {
+        Duty::Work(opened) => opened.worker == worker,
+        Duty::Control(_) => false,
+    }
+}
+
+/// Has the worker with this number refused, and any other started in a thread of std.
+fn is_not_made_without<R: Threads + Wait + Copy + Send + 'static>(
+    rt: R,
+    alloc: Global,
+    refused: u32,
+) -> Result<bool, Fail> {
+    let spawner = CallSpawner::new(|job: LiveJob<R>| {
+        if is_worker(&job, refused) {
+            Err(job)
+        } else {
+            start_daemon_job(rt, alloc, job)
+        }
+    });
+    is_not_made(rt, alloc, spawner)
+}
+
 #[test]
 fn a_daemon_without_a_worker_is_not_made(rt: HostRuntime) -> Result<(), Fail> {
     let alloc: Global = rt.alloc();
     for refused in 0..2 {
-        let spawner = Picky::new(rt, alloc, Refused::Worker(refused));
-        assert!(rt; is_not_made(rt, alloc, spawner)?);
+        assert!(rt; is_not_made_without(rt, alloc, refused)?);
     }
     Ok(())
 }

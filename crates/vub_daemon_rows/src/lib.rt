@@ -20,8 +20,6 @@ mod parts;
 #[cfg(test)]
 mod shown;
 #[cfg(test)]
-mod spawners;
-#[cfg(test)]
 mod texts;
 #[cfg(test)]
 mod two_queues;

@@ -12,7 +12,7 @@ use vub_jobs::start_daemon_job;
 use vub_live::{await_used, furnish, live_device};
 use vub_locks::Gate;
 use vub_proto::{Echo, FixedDevice, VhostUserError};
-use vub_threads::{Spawner, StdTask, Task};
+use vub_threads::{CallSpawner, Spawner, Task};
 
 /// How often a queue looks for the other.
 const LOOKS: u32 = 1_000_000_000;
@@ -53,40 +53,6 @@ impl Gate for Meeting {
 
 /// What the threads of a daemon with this gate do.
 type MeetingJob<R> = DaemonJob<R, FixedDevice, Echo, Meeting, MemLink>;
-
-/// Starts them in threads of std.
-#[derive(Drop)]
-struct MeetingSpawner<R: Threads + Wait + Copy> {
-    rt: R,
-    alloc: Global,
-    faults: u64,
-}
-
-impl<R: Threads + Wait + Copy + Send + 'static> Spawner<MeetingJob<R>> for MeetingSpawner<R> {
-    type Task = StdTask<R, MeetingJob<R>>;
-
-    ghost fault_count = { λ s. s.faults };
-
-    ghost can_spawn = { λ s. Unit };
-
-    fn faults(&self) -> u64 {
-        self.faults
-    }
-
-    fn spawn(
-        &mut self,
-        _name: &str,
-        job: MeetingJob<R>,
-    ) -> Result<StdTask<R, MeetingJob<R>>, MeetingJob<R>> {
-        match start_daemon_job(self.rt, self.alloc, job) {
-            Ok(task) => Ok(task),
-            Err(job) => {
-                self.faults = self.faults.saturating_add(1);
-                Err(job)
-            }
-        }
-    }
-}
 
 /// A daemon with this gate.
 type MeetingDaemon<R, T, S> = VhostUserDaemon<R, FixedDevice, Echo, Meeting, MemLink, T, S>;
@@ -137,18 +103,23 @@ fn uses_of<R: Wait + Copy, T: Task<DaemonEnd> + Drop, S: Spawner<MeetingJob<R>, 
     Ok(report.uses)
 }
 
+/// Has it do so in threads of std.
+fn uses_in_threads<R: Threads + Wait + Copy + Send + 'static>(
+    rt: R,
+    alloc: Global,
+    gate: Meeting,
+) -> Result<u64, Fail> {
+    let spawner = CallSpawner::new(|job: MeetingJob<R>| start_daemon_job(rt, alloc, job));
+    uses_of(rt, alloc, gate, spawner)
+}
+
 #[test]
 fn gate_two_queues(rt: HostRuntime) -> Result<(), Fail> {
     let alloc: Global = rt.alloc();
     let first = flag(alloc)?;
     let second = flag(alloc)?;
     let gate = gate_of(alloc, &first, &second)?;
-    let spawner = MeetingSpawner {
-        rt,
-        alloc,
-        faults: 0,
-    };
-    assert_eq!(rt; uses_of(rt, alloc, gate, spawner)?, 2);
+    assert_eq!(rt; uses_in_threads(rt, alloc, gate)?, 2);
     assert!(rt; first.load(Ordering::SeqCst) && second.load(Ordering::SeqCst));
     Ok(())
 }

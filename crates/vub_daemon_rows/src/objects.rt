@@ -5,14 +5,15 @@ use crate::two_queues::EchoDaemon;
 use std::alloc::{AllocError, Global};
 use std::sync::Wait;
 use std::test::Fail;
+use std::thread::Threads;
 use vub_base::{Bytes, OutOfMemory};
 use vub_daemon::DaemonEnd;
 use vub_event::EventSet;
-use vub_jobs::EchoSpawner;
+use vub_jobs::start_daemon_job;
 use vub_live::LiveJob;
 use vub_loop::EpollHandle;
 use vub_mem::DirtyLog;
-use vub_threads::{Spawner, Task};
+use vub_threads::{CallSpawner, Spawner, Task};
 
 /// Events: numbers after the exit object and the bell of the worker, a refused flag, signals.
 fn show_events<R: Wait + Copy, T: Task<DaemonEnd> + Drop, S: Drop>(
@@ -130,9 +131,17 @@ fn has_objects<R: Wait + Copy, T: Task<DaemonEnd> + Drop, S: Spawner<LiveJob<R>,
     expect(log, "logs")
 }
 
+/// The same of a daemon in threads of std.
+fn has_objects_in_threads<R: Threads + Wait + Copy + Send + 'static>(
+    rt: R,
+    alloc: Global,
+) -> Result<(), Fail> {
+    let spawner = CallSpawner::new(|job: LiveJob<R>| start_daemon_job(rt, alloc, job));
+    has_objects(rt, alloc, spawner)
+}
+
 #[test]
 fn objects_are_added_to_a_daemon(rt: HostRuntime) -> Result<(), Fail> {
     let alloc: Global = rt.alloc();
-    let spawner = EchoSpawner::new(rt, alloc);
-    has_objects(rt, alloc, spawner)
+    has_objects_in_threads(rt, alloc)
 }

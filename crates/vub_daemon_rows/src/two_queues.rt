@@ -4,14 +4,15 @@ ghost use Rattle.std.specs.Prelude.{◌≡◌, false};
 use std::alloc::Global;
 use std::sync::Wait;
 use std::test::Fail;
+use std::thread::Threads;
 use vub_attend::MemLink;
 use vub_base::OutOfMemory;
 use vub_daemon::{DaemonEnd, Error, Report, VhostUserDaemon};
-use vub_jobs::EchoSpawner;
+use vub_jobs::start_daemon_job;
 use vub_live::{LiveJob, await_used, furnish, live_device};
 use vub_locks::NoGate;
 use vub_proto::{Echo, FixedDevice, Request, VhostUserError};
-use vub_threads::{Spawner, Task};
+use vub_threads::{CallSpawner, Spawner, Task};
 
 /// A daemon over an echo service, whose front ends are links in memory.
 pub type EchoDaemon<R, T, S> = VhostUserDaemon<R, FixedDevice, Echo, NoGate, MemLink, T, S>;
@@ -70,11 +71,19 @@ fn serve_two_queues<
     Ok(report)
 }
 
+/// Has it do so in threads of std.
+fn serve_in_threads<R: Threads + Wait + Copy + Send + 'static>(
+    rt: R,
+    alloc: Global,
+) -> Result<Report, Fail> {
+    let spawner = CallSpawner::new(|job: LiveJob<R>| start_daemon_job(rt, alloc, job));
+    serve_two_queues(rt, alloc, spawner)
+}
+
 #[test]
 fn two_queues_are_started_stopped_and_closed(rt: HostRuntime) -> Result<(), Fail> {
     let alloc: Global = rt.alloc();
-    let spawner = EchoSpawner::new(rt, alloc);
-    let report = serve_two_queues(rt, alloc, spawner)?;
+    let report = serve_in_threads(rt, alloc)?;
     assert_eq!(rt; report.uses, 8);
     assert_eq!(rt; report.served, 8);
     assert_eq!(rt; report.stops.len(), 2);

@@ -1,8 +1,6 @@
-//! The threads of a daemon as threads of std: the call that starts one, and a spawner over it.
+//! The threads of a daemon as threads of std.
 #![tactic(auto)]
 
-mod spawner;
 mod start;
 
-pub use spawner::{EchoJob, EchoSpawner};
 pub use start::start_daemon_job;
