@@ -1,4 +1,4 @@
-# What ./run and ./trace have in common: to be read by them, with `name` (the wrapper's) and `crate` (the program's) set.
+# What ./run, ./trace and ./live have in common: to be read by them, with `name` (the wrapper's) and `crate` (the program's) set.
 # A script is a file, or standard input; further words go to the program. The exit status is the program's.
 
 program=$top/crates/$crate/out/$crate

@@ -77,7 +77,10 @@ fn refuses_to_serve<
     ensures alone { daemon.new.connected ≡ false }
 {
     match daemon.serve(unopened(alloc)) {
-        Err((Error::CreateVhostUserListener, Some(link))) => is_back(&link),
+        Err((Error::CreateVhostUserListener, link)) => match link {
+            Some(link) => is_back(&link),
+            None => false,
+        },
         _ => false,
     }
 }

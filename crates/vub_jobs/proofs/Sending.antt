@@ -34,9 +34,15 @@ module _ (D V G B I : RattleType) (g : Service.Ghosts V.Denot) where
   shared_sync d v t =
       search (service_book_send, of_memory.the_send, of_log.the_send, Crossing.crosses, sendable) depth 60 fits 20000
 
-  parts_send : (R : RattleType) → IsSend R → IsSend D → IsSend V → IsSend G → IsSync G
+  pub parts_send : (R : RattleType) → IsSend R → IsSend D → IsSend V → IsSend G → IsSync G
       → IsSend (LockedParts.the_field R D V G B I g).row
   parts_send R r d v t y = search (shared_send, shared_sync, Crossing.crosses, sendable) depth 60 fits 20000
+
+  -- the same of a thread's way as a value by itself
+  pub way_send : (R : RattleType) → IsSend R → IsSend D → IsSend V → IsSend G → IsSync G
+      → IsSend (LockedParts.the_row R D V G B I g)
+  way_send R r d v t y =
+      let T = LockedParts.the_type R D V G B I g in recorded_send _ _ _ T.to_one (parts_send R r d v t y)
 
 duty_send : (K C : RattleType) → IsSend K → IsSend (Duty.the_field K C).row
 duty_send K C k = search (Crossing.crosses, sendable) depth 60 fits 20000
