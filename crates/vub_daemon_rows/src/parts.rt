@@ -519,43 +519,117 @@ fn are_alike<R: Wait>(
     )
 }
 
-#[test]
-fn locked_as_owned(rt: HostRuntime) -> Result<(), Fail> {
-    let alloc: Global = rt.alloc();
-    let mut expected = String::new(alloc);
-    let mut found = String::new(alloc);
+/// What one form of the parts said, and the entry that it has in hand.
+#[derive(Drop)]
+struct Said {
+    lines: String,
+    hand: Hand,
+}
+
+fn nothing_said(alloc: Global) -> Said {
+    Said {
+        lines: String::new(alloc),
+        hand: hand_of(alloc),
+    }
+}
+
+/// The parts of one owner, which echo.
+type OwnEcho<'a> = OwnedParts<'a, FixedDevice, Echo>;
+
+/// A thread's way to the shared parts.
+type LockedEcho<R> = LockedParts<R, FixedDevice, Echo, NoGate>;
+
+/// Whether a call of both forms says the same, and leaves the same bytes.
+fn is_alike<R: Wait + Copy>(
+    rt: &R,
+    alloc: Global,
+    shared: &EchoParts,
+    owned: (&mut OwnEcho<'_>, &mut Said),
+    locked: (&mut LockedEcho<R>, &mut Said),
+    number: u32,
+) -> Result<bool, Fail> {
+    let (own_parts, expected) = owned;
+    let (parts, found) = locked;
+    step(
+        alloc,
+        &mut expected.lines,
+        own_parts,
+        &mut expected.hand,
+        number,
+    )?;
+    step(alloc, &mut found.lines, parts, &mut found.hand, number)?;
+    let said = found.lines.as_str() == expected.lines.as_str();
+    Ok(said && are_alike(rt, alloc, shared, &*own_parts.store)?)
+}
+
+/// The first call at which both forms differ.
+fn first_difference<R: Wait + Copy>(
+    rt: &R,
+    alloc: Global,
+    shared: &EchoParts,
+    owned: (&mut OwnEcho<'_>, &mut Said),
+    locked: (&mut LockedEcho<R>, &mut Said),
+) -> Result<Option<u32>, Fail> {
+    let (own_parts, expected) = owned;
+    let (parts, found) = locked;
+    furnish(alloc, &mut expected.lines, own_parts)?;
+    furnish(alloc, &mut found.lines, parts)?;
+    for number in 0..CALLS {
+        if !is_alike(
+            rt,
+            alloc,
+            shared,
+            (own_parts, expected),
+            (parts, found),
+            number,
+        )? {
+            return Ok(Some(number));
+        }
+    }
+    drain(alloc, &mut expected.lines, own_parts)?;
+    drain(alloc, &mut found.lines, parts)?;
+    Ok(None)
+}
+
+/// Plays the list of calls over both forms, and gives what each said and the first call at which they differ.
+fn play_both<R: Wait + Copy>(
+    rt: R,
+    alloc: Global,
+    expected: &mut Said,
+    found: &mut Said,
+) -> Result<Option<u32>, Fail> {
     let mut store = store_of(alloc)?;
     fill_owned(alloc, &mut store)?;
-    let mut own_device = device_of(alloc);
+    let mut device = device_of(alloc);
     let mut service = Echo;
     let constants = constants_of(alloc)?;
     let mut owned = OwnedParts {
         store: &mut store,
-        device: &mut own_device,
+        device: &mut device,
         service: &mut service,
         constants: &constants,
     };
     let shared = Arc::new(alloc, shared_of(alloc)?)?;
     expect(fill_shared(&rt, alloc, &*shared)?, "numbers of contents")?;
     let mut locked = LockedParts::new(rt, alloc, Arc::try_clone(&shared)?);
-    furnish(alloc, &mut expected, &mut owned)?;
-    furnish(alloc, &mut found, &mut locked)?;
-    let mut own_hand = hand_of(alloc);
-    let mut hand = hand_of(alloc);
-    for number in 0..CALLS {
-        step(alloc, &mut expected, &mut owned, &mut own_hand, number)?;
-        step(alloc, &mut found, &mut locked, &mut hand, number)?;
-        assert!(rt; found.as_str() == expected.as_str(), "call {number}");
-        assert!(rt;
-            are_alike(&rt, alloc, &*shared, &*owned.store)?,
-            "call {number}"
-        );
-    }
-    drain(alloc, &mut expected, &mut owned)?;
-    drain(alloc, &mut found, &mut locked)?;
-    assert!(rt; found.as_str() == expected.as_str());
+    first_difference(
+        &rt,
+        alloc,
+        &*shared,
+        (&mut owned, expected),
+        (&mut locked, found),
+    )
+}
+
+#[test]
+fn locked_as_owned(rt: HostRuntime) -> Result<(), Fail> {
+    let alloc: Global = rt.alloc();
+    let mut expected = nothing_said(alloc);
+    let mut found = nothing_said(alloc);
+    assert_eq!(rt; play_both(rt, alloc, &mut expected, &mut found)?, None);
+    assert!(rt; found.lines.as_str() == expected.lines.as_str());
     for said in ["Ok(Taken {", "Ok(Held(RoomOutside))", "Ok(Refused("] {
-        assert!(rt; found.as_str().contains(said), "{said}");
+        assert!(rt; found.lines.as_str().contains(said), "{said}");
     }
     Ok(())
 }
