@@ -2,7 +2,6 @@
 ghost use Rattle.std.specs.Prelude.{◌≡◌, false, IfOk};
 ghost use Rattle.vub_attend.specs.Links.{IsEnding};
 
-use crate::shown::expect;
 use crate::two_queues::EchoDaemon;
 use std::alloc::Global;
 use std::sync::Wait;
@@ -15,6 +14,7 @@ use vub_event::HostError;
 use vub_jobs::start_daemon_job;
 use vub_live::{LiveJob, live_device};
 use vub_locks::NoGate;
+use vub_locks_rows::shown::expect;
 use vub_proto::{Echo, VhostUserError};
 use vub_threads::{CallSpawner, Spawner, Task};
 

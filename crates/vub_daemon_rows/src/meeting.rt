@@ -1,5 +1,4 @@
 //! Two workers that are in the service at once.
-use crate::shown::expect;
 use std::alloc::Global;
 use std::sync::atomic::{AtomicBool, Ordering};
 use std::sync::{Arc, Wait};
@@ -11,6 +10,7 @@ use vub_daemon::{DaemonEnd, DaemonJob, VhostUserDaemon};
 use vub_jobs::start_daemon_job;
 use vub_live::{await_used, furnish, live_device};
 use vub_locks::Gate;
+use vub_locks_rows::shown::expect;
 use vub_proto::{Echo, FixedDevice, VhostUserError};
 use vub_threads::{CallSpawner, Spawner, Task};
 

@@ -1,6 +1,5 @@
 //! The objects of a daemon.
 use crate::connecting::{closes, daemon_of};
-use crate::shown::{expect, show};
 use crate::two_queues::EchoDaemon;
 use std::alloc::{AllocError, Global};
 use std::sync::Wait;
@@ -11,6 +10,7 @@ use vub_daemon::DaemonEnd;
 use vub_event::EventSet;
 use vub_jobs::start_daemon_job;
 use vub_live::LiveJob;
+use vub_locks_rows::shown::{expect, show};
 use vub_loop::EpollHandle;
 use vub_mem::DirtyLog;
 use vub_threads::{CallSpawner, Spawner, Task};

@@ -1,9 +1,9 @@
 //! The texts of errors that users of the Rust crates know.
-use crate::shown::tell;
 use std::alloc::{AllocError, Global};
 use std::test::Fail;
 use vub_daemon::Error;
 use vub_handler::VhostUserHandlerError;
+use vub_locks_rows::shown::tell;
 use vub_model::{VringEpollError, Why};
 use vub_proto::VhostUserError;
 use vub_queue::QueueError;
