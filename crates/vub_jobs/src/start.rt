@@ -33,7 +33,8 @@ where
     D::Bitmap: Send + 'static,
     <D::Bitmap as BitmapReplace>::InnerBitmap: Send + 'static,
     K::Closer: Send + 'static,
-    ensures { Started (Promised (λ j e. ends_as j.duty e ≡ true)) (λ j e. ends_as j.duty e ≡ true) job result }
+    ensures { Started (Promised (λ j e. ends_as j.duty e ≡ true)) (λ j e. ends_as j.duty e ≡ true)
+        job result }
 {
     start_job(rt, alloc, job)
 }
