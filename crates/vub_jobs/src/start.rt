@@ -13,8 +13,8 @@ use vub_mem::BitmapReplace;
 use vub_proto::{Service, VhostUserBackendMut};
 use vub_threads::{StdTask, start_job};
 
-/// Starts a job of a daemon in a thread of std, or hands it back. A function that is generic over the runtime alone gives
-/// its daemon a `CallSpawner` over this call.
+/// Starts a job of a daemon in a thread of std, or hands it back. A function that is generic over the runtime gives its
+/// daemon a `CallSpawner` over this call.
 ///
 /// # Errors
 /// The job, where no thread can be made, or for want of memory.
