@@ -4,3 +4,5 @@ pub mod Asked
 pub mod Batching
 pub mod Collected
 pub mod Valid
+pub mod Storing
+pub mod Ahead
