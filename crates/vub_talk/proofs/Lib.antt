@@ -6,3 +6,5 @@ pub mod Collected
 pub mod Valid
 pub mod Storing
 pub mod Ahead
+pub mod Gathering
+pub mod Turning
