@@ -1,6 +1,6 @@
 -- A run of the machine is a dialog of driver and device: each of its turns is a step of the dialog, or a part of one, or
 -- leaves it.
-use Rattle.std.proofs.Common.{◌≡◌, ◌≢◌, ℕ, suc, ◌+◌, ◌-◌, ◌<◌, ◌≤◌, ◌⊎◌, inl, inr, Bool, true, false, cond, not, List, [], ◌∷◌, ◌++◌, length, map, Option, Some, None, Result, Ok, refl, sym, ap, ap₂, subst, ◌∙◌, arith, set, eqb}
+use Rattle.std.proofs.Common.{◌≡◌, ◌≢◌, ℕ, suc, ◌+◌, ◌-◌, ◌^◌, ◌<◌, ◌≤◌, ◌⊎◌, inl, inr, Bool, true, false, cond, not, List, [], ◌∷◌, ◌++◌, length, map, Option, Some, None, Result, Ok, refl, sym, ap, ap₂, subst, ◌∙◌, arith, set, eqb}
 use Rattle.std.specs.Int.{w16, to_le_bytes}
 use Rattle.std.specs.List.{AllByRecursion, list_any}
 use Rattle.vub_mem.specs.Memory.{Guest}
@@ -83,6 +83,7 @@ pub record Gathers {V : Type 0} (m : Meaning V) (v : V) (all : List Asked) (end 
   pub served : dialog.held ≡ None → (h.service ≡ value_after m v dialog.taken) × (dialog.replies ≡ replies_to m v dialog.taken)
   pub asked : dialog.asked ++ map (λ a. asked_by a) rest ≡ all
   pub room : dialog.driver.submitted + length rest ≤ dialog.driver.collected + half_of dialog.driver.layout
+  pub counted : dialog.driver.submitted + length rest < 2 ^ 64
   pub small : AreSmall dialog.driver.layout rest
   pub state : state_asked dialog.driver rest ≡ end
   pub stage : Stage dialog rest actions

@@ -8,3 +8,5 @@ pub mod Storing
 pub mod Ahead
 pub mod Gathering
 pub mod Turning
+pub mod Working
+pub mod Playing

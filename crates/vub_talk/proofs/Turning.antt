@@ -91,7 +91,7 @@ replies_more m v (b ∷ before) a = ap (λ rs. m.reply_of v b.request b.room ∷
 -- Stages
 
 -- what leaves all that is ahead leaves the stage
-stage_kept : (d : Dialog) (g : Guest) (q : Ring) (ts : List Asked) (x : Option Chain) (rs : List (List ℕ)) (rest : List Ask) (actions : List Action) →
+pub stage_kept : (d : Dialog) (g : Guest) (q : Ring) (ts : List Asked) (x : Option Chain) (rs : List (List ℕ)) (rest : List Ask) (actions : List Action) →
     ((a : Ask) (more : List Ask) → rest ≡ a ∷ more → (i j k : ℕ) → i ≤ d.driver.submitted + 1 → Ahead d (asked_by a) i j k → Ahead (record d { guest = g; ring = q; taken = ts; held = x; replies = rs }) (asked_by a) i j k) →
     Stage d rest actions → Stage (record d { guest = g; ring = q; taken = ts; held = x; replies = rs }) rest actions
 stage_kept d g q ts x rs rest actions moved (between is) = between is
