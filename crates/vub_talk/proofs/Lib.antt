@@ -10,3 +10,4 @@ pub mod Gathering
 pub mod Turning
 pub mod Working
 pub mod Playing
+pub mod Untouched
