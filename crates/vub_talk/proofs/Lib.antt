@@ -11,3 +11,4 @@ pub mod Turning
 pub mod Working
 pub mod Playing
 pub mod Untouched
+pub mod Spanned

@@ -19,7 +19,7 @@ use Rattle.vub_model.specs.Headline.{ChangesOnly, IsSpot}
 use Rattle.vub_model.specs.RunOf.{party_of, Turn, IsRun, next}
 use Rattle.vub_model.specs.Service.{Meaning}
 use Rattle.vub_model.specs.Shared.{Shared}
-use Rattle.vub_model.specs.World.{World, May, after, acted, stored, phase_at}
+use Rattle.vub_model.specs.World.{World, May, after, acted, stored, phase_at, written_by}
 use Rattle.vub_model.specs.Written.{Spot, flagged, with_spots, is_written}
 use Rattle.vub_model.proofs.Confined.{confined-work}
 use Rattle.vub_model.proofs.Turns.{turn-cases}
@@ -138,3 +138,90 @@ content_acted h (Store o i bs) some = elim (cases_eq o 0) [
 ]
 content_acted h (Signal o) some = refl
 content_acted h (Harvest o word) some = refl
+
+-- Flags
+
+flag_own : (flags : List (List Bool)) (i j : ℕ) → i < length (get_or flags 0 []) → is_written (flagged flags (record { object = 0; offset = j })) 0 i ≡ false → (is_written flags 0 i ≡ false) × (j ≢ i)
+flag_own [] i j within is = absurd (omega arith)
+flag_own (row ∷ rows) i j within is = elim (cases_eq i j) [
+  | inl same ↦ absurd (true≢false (sym (get_or-set_same row j true false (subst (λ k. k < length row) same within)) ∙ ap (λ x. get_or (set row j true) x false) (sym same) ∙ is))
+  | inr other ↦ (sym (get_or-set_other row j i true false other) ∙ is, λ same. other (sym same))
+]
+
+there_some : (flags : List (List Bool)) (i : ℕ) → i < length (get_or flags 0 []) → 0 < length flags
+there_some [] i within = absurd (omega arith)
+there_some (row ∷ rows) i within = omega arith
+
+flag_one : (flags : List (List Bool)) (s : Spot) (i : ℕ) → i < length (get_or flags 0 []) → is_written (flagged flags s) 0 i ≡ false → (is_written flags 0 i ≡ false) × ((s.object ≡ 0) × (s.offset ≡ i) → ⊥)
+flag_one flags s i within is = elim (cases_eq s.object 0) [
+  | inl same ↦
+      let P : ℕ → Type 0 = λ o. is_written (flagged flags (record { object = o; offset = s.offset })) 0 i ≡ false in
+      let own = flag_own flags i s.offset within (subst P same is) in
+      (own.0, λ both. own.1 both.1)
+  | inr other ↦
+      let row = set (get_or flags s.object []) s.offset true in
+      (sym (ap (λ r. get_or r i false) (get_or-set_other flags s.object 0 row [] (λ z. other (sym z)))) ∙ is, λ both. other both.0)
+]
+
+length-flagged : (flags : List (List Bool)) (s : Spot) → length (get_or (flagged flags s) 0 []) ≡ length (get_or flags 0 [])
+length-flagged flags s = elim (cases_eq 0 s.object) [
+  | inl same ↦ elim (cases_lt s.object (length flags)) [
+    | inl within ↦
+        ap (λ o. length (get_or (flagged flags s) o [])) same ∙ ap length (get_or-set_same flags s.object (set (get_or flags s.object []) s.offset true) [] within)
+        ∙ length-set (get_or flags s.object []) s.offset true ∙ ap (λ o. length (get_or flags o [])) (sym same)
+    | inr past ↦
+        (let long : length flags ≤ 0 = omega (arith, same) in let longer : length (flagged flags s) ≤ 0 = (let l = length-set flags s.object (set (get_or flags s.object []) s.offset true) in omega arith) in
+        ap length (get_or_past (flagged flags s) 0 [] longer) ∙ sym (ap length (get_or_past flags 0 [] long)))
+  ]
+  | inr other ↦ ap length (get_or-set_other flags s.object 0 (set (get_or flags s.object []) s.offset true) [] other)
+]
+
+length-with_spots : (flags : List (List Bool)) (spots : List Spot) → length (get_or (with_spots flags spots) 0 []) ≡ length (get_or flags 0 [])
+length-with_spots flags [] = refl
+length-with_spots flags (s ∷ spots) = length-with_spots (flagged flags s) spots ∙ length-flagged flags s
+
+flags_none : (flags : List (List Bool)) (spots : List Spot) (i : ℕ) → i < length (get_or flags 0 []) → is_written (with_spots flags spots) 0 i ≡ false → (is_written flags 0 i ≡ false) × (IsSpot spots 0 i → ⊥)
+flags_none flags [] i within is = (is, λ no. no)
+flags_none flags (s ∷ spots) i within is =
+    let later = flags_none (flagged flags s) spots i (omega (arith, length-flagged flags s)) is in
+    let first = flag_one flags s i within later.0 in
+    (first.0, λ spot. elim spot [ inl own ↦ first.1 own | inr more ↦ later.1 more ])
+
+-- Runs
+
+-- where no byte was written the content is, with what the guest has still to store, as the guest's stores alone make it
+pub record Untouched {V : Type 0} (end : List ℕ) (w : World V) : Type 0 where
+  pub flags : length (get_or w.written 0 []) ≡ 1048576
+  pub long : length (content_of w.shared.guest.contents 0) ≡ 1048576
+  pub same : (i : ℕ) → i < 1048576 → is_written w.written 0 i ≡ false → get_or (acts_on (content_of w.shared.guest.contents 0) w.guest) i 0 ≡ get_or end i 0
+
+module _ {V : Type 0} (m : Meaning V) (end : List ℕ) where
+  untouched_guest : (w : World V) (actions : List Action) → w.guest ≡ actions → Untouched end w → actions ≢ [] → Untouched end (after m (record w { guest = actions }) party.Guest play.Guest)
+  untouched_guest w [] is now some = absurd (some refl)
+  untouched_guest w (action ∷ actions) is now some =
+      let content = content_acted w.shared action (omega (arith, now.long)) in
+      record {
+        flags = now.flags;
+        long = ap length content ∙ length-act_on (content_of w.shared.guest.contents 0) action ∙ now.long;
+        same = λ i below none. ap (λ xs. get_or (acts_on xs actions) i 0) content ∙ ap (λ list. get_or (acts_on (content_of w.shared.guest.contents 0) list) i 0) (sym is) ∙ now.same i below none;
+      }
+
+  untouched_step : (w : World V) (p : Party) (l : Play) → May w p l → w.control.plan.steps ≡ [] → Untouched end w → Untouched end (after m w p l)
+  untouched_step w party.Guest play.Guest may quiet now = untouched_guest w w.guest refl now may
+  untouched_step w party.Control (play.Control s said) may quiet now = absurd (let none : MayControl w.shared [] s said = subst (λ steps. MayControl w.shared steps s said) quiet may in none)
+  untouched_step w (party.Worker k) l may quiet now =
+      let only = confined-work w.shared m w.wiring k (phase_at w.phases k) l in
+      record {
+        flags = length-with_spots w.written (written_by w.shared l (phase_at w.phases k)) ∙ now.flags;
+        long = only.lengths 0 ∙ now.long;
+        same = λ i below none.
+            let parts = flags_none w.written (written_by w.shared l (phase_at w.phases k)) i (omega (arith, now.flags)) none in
+            acts_agree w.guest _ _ i (only.lengths 0) (only.bytes 0 i parts.1) ∙ now.same i below parts.0;
+      }
+  untouched_step w p l may quiet now = absurd may
+
+  pub untouched_turn : (w : World V) (p : Party) (l : Play) (z : World V) → Turn m w p l z → w.control.plan.steps ≡ [] → Untouched end w → Untouched end z
+  untouched_turn w p l z t quiet now =
+      turn-cases m w p z (λ l. Untouched end z)
+      (λ same. subst (λ (x : World V). Untouched end x) (sym same) now)
+      (λ l may is. subst (λ (x : World V). Untouched end x) (sym is) (untouched_step w p l may quiet now)) l t
