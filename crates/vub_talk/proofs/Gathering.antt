@@ -27,12 +27,8 @@ use Rattle.vub_talk.specs.declared.ask.Ask.{Ask}
 use Rattle.vub_talk.specs.Asking.{AreSmall, region}
 use Rattle.vub_talk.specs.Batches.{asks_stored, store_of}
 use Rattle.vub_talk.specs.Replies.{asked_by, replies_to, value_after}
+use Rattle.vub_talk.specs.Talking.{state_asked}
 use Rattle.vub_talk.proofs.Ahead.{Ahead}
-
--- the driver after these asks
-abbrev pub state_asked : State → List Ask → State
-state_asked s [] = s
-state_asked s (a ∷ asks) = state_asked (state_submitted s a.room) asks
 
 -- what the guest does for these asks, from number n on
 abbrev pub actions_from : State → ℕ → List Ask → List Action

@@ -12,3 +12,4 @@ pub mod Working
 pub mod Playing
 pub mod Untouched
 pub mod Spanned
+pub mod Opened

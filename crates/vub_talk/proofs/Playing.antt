@@ -37,9 +37,10 @@ use Rattle.vub_talk.specs.declared.ask.Ask.{Ask}
 use Rattle.vub_talk.specs.Asking.{AreSmall, is_large, region}
 use Rattle.vub_talk.specs.Batches.{store_of}
 use Rattle.vub_talk.specs.Replies.{asked_by, replies_to, value_after}
+use Rattle.vub_talk.specs.Talking.{state_asked}
 use Rattle.vub_talk.proofs.Accepting.{accepted, each_small}
 use Rattle.vub_talk.proofs.Ahead.{Ahead, nothing_ahead, request_stored, chain_stored, slot_stored, index_submits}
-use Rattle.vub_talk.proofs.Gathering.{Gathers, Hand, Stage, actions_from, state_asked}
+use Rattle.vub_talk.proofs.Gathering.{Gathers, Hand, Stage, actions_from}
 use Rattle.vub_talk.proofs.Gathering.Stage.{between, requested, chained, slotted, ended}
 use Rattle.vub_talk.proofs.Storing.{store_writes}
 use Rattle.vub_talk.proofs.Turning.{small_parts, space_left}

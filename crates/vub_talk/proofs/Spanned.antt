@@ -8,6 +8,7 @@ use Rattle.vub_model.specs.declared.records.Span.{Span}
 use Rattle.vub_model.specs.RunRecords.{with_byte, spans_in}
 use Rattle.vub_model.specs.World.{stored}
 use Rattle.vub_model.specs.Written.{is_written}
+use Rattle.vub_talk.specs.Talking.{spans_stored}
 use Rattle.vub_talk.proofs.Untouched.{over_if, length-over_if, content_over}
 
 abbrev pub spans_over : List ℕ → List Span → List ℕ
@@ -107,11 +108,6 @@ spans_make flags ps (z ∷ zs) (b ∷ bytes) k at long same =
 pub spans_whole : (flags : List (List Bool)) (ys bytes : List ℕ) → length ys ≡ length bytes → ((i : ℕ) → i < length bytes → is_written flags 0 i ≡ false → get_or ys i 0 ≡ get_or bytes i 0) → spans_over ys (spans_in flags 0 0 bytes) ≡ bytes
 spans_whole flags ys bytes long same =
     spans_make flags [] ys bytes 0 refl long (λ i below none. same i below (let up : 0 + i ≡ i = omega arith in sym (ap (is_written flags 0) up) ∙ none))
-
--- memory after these spans are stored into its content
-abbrev pub spans_stored : Guest → List Span → Guest
-spans_stored g [] = g
-spans_stored g (s ∷ spans) = spans_stored (stored g 0 s.offset s.bytes) spans
 
 pub content_spanned : (g : Guest) (spans : List Span) → 0 < length (content_of g.contents 0) → content_of (spans_stored g spans).contents 0 ≡ spans_over (content_of g.contents 0) spans
 content_spanned g [] some = refl

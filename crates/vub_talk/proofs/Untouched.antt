@@ -6,7 +6,7 @@ use Rattle.std.proofs.lemmas.List.{get_or-set_same, get_or-set_other, get_or_pas
 use Rattle.vub_mem.specs.declared.content.Content.{Content}
 use Rattle.vub_mem.specs.Memory.{Guest}
 use Rattle.vub_mem.specs.Place.{content_of, overwritten, store_at, with_bytes}
-use Rattle.vub_mem.proofs.Contents.{content_true, content_false, stores_true, stores_false, length-overwritten}
+use Rattle.vub_mem.proofs.Contents.{content_true, content_false, stores_true, stores_false, length-overwritten, length-with_bytes}
 use Rattle.vub_proto.specs.declared.device_said.DeviceSaid.{DeviceSaid}
 use Rattle.vub_model.specs.declared.party.Party.{Party}
 use Rattle.vub_model.specs.declared.party.Party.TheVariants as party
@@ -139,6 +139,30 @@ content_acted h (Store o i bs) some = elim (cases_eq o 0) [
 content_acted h (Signal o) some = refl
 content_acted h (Harvest o word) some = refl
 
+stored_length : (g : Guest) (o i : ℕ) (bs : List ℕ) (q : ℕ) (fits : Bool) → leb (i + length bs) (length (content_of g.contents o)) ≡ fits →
+    length (content_of (cond {A = Guest} fits (store_at g o i bs) g).contents q) ≡ length (content_of g.contents q)
+unfolding store_at
+stored_length g o i bs q true is = length-with_bytes g.contents o i bs q (leb-true (i + length bs) (length (content_of g.contents o)) is)
+stored_length g o i bs q false is = refl
+
+pub length_stored : (g : Guest) (o i : ℕ) (bs : List ℕ) (q : ℕ) → length (content_of (stored g o i bs).contents q) ≡ length (content_of g.contents q)
+unfolding stored
+length_stored g o i bs q = stored_length g o i bs q (leb (i + length bs) (length (content_of g.contents o))) refl
+
+pub length_acted : {V : Type 0} (h : Shared V) (action : Action) (q : ℕ) → length (content_of (acted h action).guest.contents q) ≡ length (content_of h.guest.contents q)
+length_acted h (Store o i bs) q = length_stored h.guest o i bs q
+length_acted h (Signal o) q = refl
+length_acted h (Harvest o word) q = refl
+
+regions_if : (g : Guest) (o i : ℕ) (bs : List ℕ) (fits : Bool) → (cond {A = Guest} fits (store_at g o i bs) g).regions ≡ g.regions
+unfolding store_at
+regions_if g o i bs true = refl
+regions_if g o i bs false = refl
+
+pub regions_stored : (g : Guest) (o i : ℕ) (bs : List ℕ) → (stored g o i bs).regions ≡ g.regions
+unfolding stored
+regions_stored g o i bs = regions_if g o i bs (leb (i + length bs) (length (content_of g.contents o)))
+
 -- Flags
 
 flag_own : (flags : List (List Bool)) (i j : ℕ) → i < length (get_or flags 0 []) → is_written (flagged flags (record { object = 0; offset = j })) 0 i ≡ false → (is_written flags 0 i ≡ false) × (j ≢ i)
@@ -193,6 +217,7 @@ flags_none flags (s ∷ spots) i within is =
 pub record Untouched {V : Type 0} (end : List ℕ) (w : World V) : Type 0 where
   pub flags : length (get_or w.written 0 []) ≡ 1048576
   pub long : length (content_of w.shared.guest.contents 0) ≡ 1048576
+  pub none : (o : ℕ) → o ≢ 0 → length (content_of w.shared.guest.contents o) ≡ 0
   pub same : (i : ℕ) → i < 1048576 → is_written w.written 0 i ≡ false → get_or (acts_on (content_of w.shared.guest.contents 0) w.guest) i 0 ≡ get_or end i 0
 
 module _ {V : Type 0} (m : Meaning V) (end : List ℕ) where
@@ -202,6 +227,7 @@ module _ {V : Type 0} (m : Meaning V) (end : List ℕ) where
       let content = content_acted w.shared action (omega (arith, now.long)) in
       record {
         flags = now.flags;
+        none = λ o other. length_acted w.shared action o ∙ now.none o other;
         long = ap length content ∙ length-act_on (content_of w.shared.guest.contents 0) action ∙ now.long;
         same = λ i below none. ap (λ xs. get_or (acts_on xs actions) i 0) content ∙ ap (λ list. get_or (acts_on (content_of w.shared.guest.contents 0) list) i 0) (sym is) ∙ now.same i below none;
       }
@@ -214,6 +240,7 @@ module _ {V : Type 0} (m : Meaning V) (end : List ℕ) where
       record {
         flags = length-with_spots w.written (written_by w.shared l (phase_at w.phases k)) ∙ now.flags;
         long = only.lengths 0 ∙ now.long;
+        none = λ o other. only.lengths o ∙ now.none o other;
         same = λ i below none.
             let parts = flags_none w.written (written_by w.shared l (phase_at w.phases k)) i (omega (arith, now.flags)) none in
             acts_agree w.guest _ _ i (only.lengths 0) (only.bytes 0 i parts.1) ∙ now.same i below parts.0;

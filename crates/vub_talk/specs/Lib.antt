@@ -5,3 +5,4 @@ pub mod Late
 pub mod Machine
 pub mod Replies
 pub mod Talked
+pub mod Talking
