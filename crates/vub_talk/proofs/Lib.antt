@@ -13,3 +13,4 @@ pub mod Playing
 pub mod Untouched
 pub mod Spanned
 pub mod Opened
+pub mod Beginning
