@@ -33,7 +33,7 @@ use Rattle.vub_talk.specs.Machine.{setup_for}
 use Rattle.vub_talk.specs.Replies.{asked_by, replies_to, value_after}
 use Rattle.vub_talk.specs.Talking.{state_asked}
 use Rattle.vub_talk.proofs.Ahead.{keeps_ring}
-use Rattle.vub_talk.proofs.Gathering.{Gathers, Hand}
+use Rattle.vub_talk.proofs.Gathering.{Gathers, Goal, Hand}
 use Rattle.vub_talk.proofs.Gathering.Stage.{between}
 use Rattle.vub_talk.proofs.Opened.{IsSame, keeps_same}
 use Rattle.vub_talk.proofs.Playing.{GathersIn}
@@ -110,6 +110,9 @@ module _ {V : Type 0} (m : Meaning V) (v : V) (d : Dialog) (k : Keeps region d) 
   abbrev all : List Asked
   all = d.asked ++ map (λ a. asked_by a) asks
 
+  abbrev pub goal : Goal
+  goal = record { state = state_asked d.driver asks; answers = d.answers }
+
   same_content : IsSame d.guest guest
   same_content = record { one = k.reads.flat.one; other = refl; content = refl }
 
@@ -126,7 +129,7 @@ module _ {V : Type 0} (m : Meaning V) (v : V) (d : Dialog) (k : Keeps region d) 
   held = before_rings c (batch_setup l n content actions) service
 
   begins_same : (z : Shared V) → z.guest ≡ guest → z.rings ≡ map ring_of (range_with_len 0 c.queues) → z.service ≡ service →
-      Gathers m v all (state_asked d.driver asks) z (map (λ (mask : ℕ). Idle) c.masks) actions []
+      Gathers m v all goal z (map (λ (mask : ℕ). Idle) c.masks) actions []
   begins_same z memory rings value =
       let own : ring_at z 0 ≡ given_vring c.max ring = ap (λ rs. slice_index_or rs 0 closed_ring) rings ∙ first_ring c.queues some in
       record {
@@ -148,18 +151,19 @@ module _ {V : Type 0} (m : Meaning V) (v : V) (d : Dialog) (k : Keeps region d) 
         counted = counted;
         small = small;
         state = refl;
+        answered = refl;
         stage = between refl;
       }
 
   abbrev placed_at : Option Place → Shared V
   placed_at o = placed (wiring_of c 3) (claimed held 1 0) 1 o
 
-  begins_at : (o : Option Place) → Gathers m v all (state_asked d.driver asks) (placed_at o) (map (λ (mask : ℕ). Idle) c.masks) actions []
+  begins_at : (o : Option Place) → Gathers m v all goal (placed_at o) (map (λ (mask : ℕ). Idle) c.masks) actions []
   unfolding batch_setup
   begins_at None = begins_same (placed_at None) refl refl refl
   begins_at (Some p) = begins_same (placed_at (Some p)) refl refl refl
 
-  pub begins : GathersIn m v all (state_asked d.driver asks) (opening c (setup_for d.driver d.guest asks) service)
+  pub begins : GathersIn m v all goal (opening c (setup_for d.driver d.guest asks) service)
   unfolding opening batch_setup
   begins = begins_at (place_of (wiring_of c 3) 0)
 

@@ -21,6 +21,7 @@ use Rattle.vub_driver.specs.Calls.{state_submitted}
 use Rattle.vub_driver.specs.Machine.{Asked, World as Dialog}
 use Rattle.vub_driver.specs.Places.{half_of}
 use Rattle.vub_driver.specs.State.{State}
+use Rattle.vub_driver.specs.declared.done.Done.{Done}
 use Rattle.vub_driver.specs.Writings.{writes_of}
 use Rattle.vub_driver.proofs.Kept.{Keeps}
 use Rattle.vub_talk.specs.declared.ask.Ask.{Ask}
@@ -29,6 +30,11 @@ use Rattle.vub_talk.specs.Batches.{asks_stored, store_of}
 use Rattle.vub_talk.specs.Replies.{asked_by, replies_to, value_after}
 use Rattle.vub_talk.specs.Talking.{state_asked}
 use Rattle.vub_talk.proofs.Ahead.{Ahead}
+
+-- what the driver comes to: its state in the end, and what was collected before
+pub record Goal : Type 0 where
+  pub state : State
+  pub answers : List Done
 
 -- what the guest does for these asks, from number n on
 abbrev pub actions_from : State → ℕ → List Ask → List Action
@@ -63,7 +69,7 @@ Hand m v d holder service k phase = Unit {0}
 
 -- What the machine is at, as a dialog: of a service that began with v, where all of these are asked in the end, and the
 -- driver ends so.
-pub record Gathers {V : Type 0} (m : Meaning V) (v : V) (all : List Asked) (end : State) (h : Shared V) (phases : List Phase) (actions : List Action) (steps : List Small) : Type 0 where
+pub record Gathers {V : Type 0} (m : Meaning V) (v : V) (all : List Asked) (end : Goal) (h : Shared V) (phases : List Phase) (actions : List Action) (steps : List Small) : Type 0 where
   pub dialog : Dialog
   pub rest : List Ask
   pub holder : ℕ
@@ -81,5 +87,6 @@ pub record Gathers {V : Type 0} (m : Meaning V) (v : V) (all : List Asked) (end 
   pub room : dialog.driver.submitted + length rest ≤ dialog.driver.collected + half_of dialog.driver.layout
   pub counted : dialog.driver.submitted + length rest < 2 ^ 64
   pub small : AreSmall dialog.driver.layout rest
-  pub state : state_asked dialog.driver rest ≡ end
+  pub state : state_asked dialog.driver rest ≡ end.state
+  pub answered : dialog.answers ≡ end.answers
   pub stage : Stage dialog rest actions

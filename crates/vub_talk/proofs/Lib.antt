@@ -14,3 +14,4 @@ pub mod Untouched
 pub mod Spanned
 pub mod Opened
 pub mod Beginning
+pub mod Ending

@@ -40,7 +40,7 @@ use Rattle.vub_talk.specs.Replies.{asked_by, replies_to, value_after}
 use Rattle.vub_talk.specs.Talking.{state_asked}
 use Rattle.vub_talk.proofs.Accepting.{accepted, each_small}
 use Rattle.vub_talk.proofs.Ahead.{Ahead, nothing_ahead, request_stored, chain_stored, slot_stored, index_submits}
-use Rattle.vub_talk.proofs.Gathering.{Gathers, Hand, Stage, actions_from}
+use Rattle.vub_talk.proofs.Gathering.{Gathers, Goal, Hand, Stage, actions_from}
 use Rattle.vub_talk.proofs.Gathering.Stage.{between, requested, chained, slotted, ended}
 use Rattle.vub_talk.proofs.Storing.{store_writes}
 use Rattle.vub_talk.proofs.Turning.{small_parts, space_left}
@@ -64,7 +64,7 @@ first_is x y xs ys zs one two = (let both : x ∷ xs ≡ y ∷ ys = sym one ∙ 
 rest_is : (x y : Action) (xs ys zs : List Action) → zs ≡ x ∷ xs → zs ≡ y ∷ ys → xs ≡ ys
 rest_is x y xs ys zs one two = (let both : x ∷ xs ≡ y ∷ ys = sym one ∙ two in cc)
 
-module _ {V : Type 0} (m : Meaning V) (v : V) (all : List Asked) (end : State) (h : Shared V) (phases : List Phase) (actions : List Action) (steps : List Small) (now : Gathers m v all end h phases actions steps) where
+module _ {V : Type 0} (m : Meaning V) (v : V) (all : List Asked) (end : Goal) (h : Shared V) (phases : List Phase) (actions : List Action) (steps : List Small) (now : Gathers m v all end h phases actions steps) where
   abbrev d : Dialog
   d = now.dialog
 
@@ -99,6 +99,7 @@ module _ {V : Type 0} (m : Meaning V) (v : V) (all : List Asked) (end : State) (
     counted = now.counted;
     small = now.small;
     state = now.state;
+    answered = now.answered;
     stage = stage;
   }
 
@@ -195,6 +196,7 @@ module _ {V : Type 0} (m : Meaning V) (v : V) (all : List Asked) (end : State) (
           room = omega (arith, now.room, count);
           counted = omega (arith, now.counted, count);
           small = (small_parts l now.rest a more now.small is).1;
+          answered = now.answered;
           state = ap (state_asked d.driver) (sym is) ∙ now.state;
           stage = between refl;
         }
@@ -220,6 +222,7 @@ module _ {V : Type 0} (m : Meaning V) (v : V) (all : List Asked) (end : State) (
     counted = now.counted;
     small = now.small;
     state = now.state;
+    answered = now.answered;
     stage = ended is refl;
   }
 
@@ -242,10 +245,10 @@ module _ {V : Type 0} (m : Meaning V) (v : V) (all : List Asked) (end : State) (
 
 -- Runs
 
-abbrev pub GathersIn : {V : Type 0} → Meaning V → V → List Asked → State → World V → Type 0
+abbrev pub GathersIn : {V : Type 0} → Meaning V → V → List Asked → Goal → World V → Type 0
 GathersIn m v all end w = Gathers m v all end w.shared w.phases w.guest w.control.plan.steps
 
-module _ {V : Type 0} (m : Meaning V) (v : V) (all : List Asked) (end : State) where
+module _ {V : Type 0} (m : Meaning V) (v : V) (all : List Asked) (end : Goal) where
   fits_now : (w : World V) (k : ℕ) (l : Play) → (now : GathersIn m v all end w) → (there : k < length w.phases) → AllByRecursion FitsItsRoom (asked_at m w (party.Worker k) l) →
       FitsNow m v all end w.shared w.phases w.guest w.control.plan.steps now k there (phase_at w.phases k) l
   fits_now w k play.Serve now there fits = fits

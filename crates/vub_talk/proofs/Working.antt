@@ -55,7 +55,7 @@ use Rattle.vub_talk.specs.declared.ask.Ask.{Ask}
 use Rattle.vub_talk.specs.Asking.{AreSmall, is_large, region}
 use Rattle.vub_talk.specs.Replies.{asked_by, replies_to, value_after}
 use Rattle.vub_talk.proofs.Ahead.{Ahead, ahead_taken, ahead_put}
-use Rattle.vub_talk.proofs.Gathering.{Gathers, Hand, Stage, asked_in}
+use Rattle.vub_talk.proofs.Gathering.{Gathers, Goal, Hand, Stage, asked_in}
 use Rattle.vub_talk.proofs.Gathering.Stage.{between, requested, chained, slotted, ended}
 use Rattle.vub_talk.proofs.Turning.{put_fine, small_parts, space_left, stage_kept, value_more, replies_more}
 use Rattle.vub_core.specs.Replies.{FitsItsRoom}
@@ -106,7 +106,7 @@ module _ {V : Type 0} (m : Meaning V) (v : V) where
 put_ring : (r : Vring) → ring_after r op.Put ≡ changed r op.Put
 put_ring r = refl
 
-module _ {V : Type 0} (m : Meaning V) (v : V) (all : List Asked) (end : State) (h : Shared V) (phases : List Phase) (actions : List Action) (steps : List Small) (now : Gathers m v all end h phases actions steps) (k : ℕ) (there : k < length phases) where
+module _ {V : Type 0} (m : Meaning V) (v : V) (all : List Asked) (end : Goal) (h : Shared V) (phases : List Phase) (actions : List Action) (steps : List Small) (now : Gathers m v all end h phases actions steps) (k : ℕ) (there : k < length phases) where
   abbrev d : Dialog
   d = now.dialog
 
@@ -143,6 +143,7 @@ module _ {V : Type 0} (m : Meaning V) (v : V) (all : List Asked) (end : State) (
     counted = now.counted;
     small = now.small;
     state = now.state;
+    answered = now.answered;
     stage = now.stage;
   }
 
@@ -177,6 +178,7 @@ module _ {V : Type 0} (m : Meaning V) (v : V) (all : List Asked) (end : State) (
         counted = now.counted;
         small = now.small;
         state = now.state;
+        answered = now.answered;
         stage = stage_kept d d.guest (record d.ring { next_avail = after d.ring.next_avail }) (d.taken ++ asked_in c ∷ []) (Some c) d.replies now.rest actions
             (λ a more is x y z few ahead. ahead_taken d (asked_by a) now.keeps now.off (space_left d.driver.submitted d.driver.collected (half_of d.driver.layout) now.rest a more now.room is) (small_parts d.driver.layout now.rest a more now.small is).0
             (record d.ring { next_avail = after d.ring.next_avail }) c (asked_in c) x y z ahead)
@@ -240,6 +242,7 @@ module _ {V : Type 0} (m : Meaning V) (v : V) (all : List Asked) (end : State) (
         counted = now.counted;
         small = now.small;
         state = now.state;
+        answered = now.answered;
         stage = now.stage;
       }
 
@@ -281,6 +284,7 @@ module _ {V : Type 0} (m : Meaning V) (v : V) (all : List Asked) (end : State) (
       counted = now.counted;
       small = now.small;
       state = now.state;
+      answered = now.answered;
       stage = stage_kept d filled (ring_told (ring_used d.ring)) d.taken None (d.replies ++ reply ∷ []) now.rest actions
           (λ a more is x y z few ahead. ahead_put d (asked_by a) now.keeps now.off (space_left d.driver.submitted d.driver.collected (half_of d.driver.layout) now.rest a more now.room is) (small_parts d.driver.layout now.rest a more now.small is).0
           e.chain reply held fit x y z few ahead)

@@ -6,3 +6,4 @@ pub mod Machine
 pub mod Replies
 pub mod Talked
 pub mod Talking
+pub mod Talks
