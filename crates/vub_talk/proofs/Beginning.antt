@@ -167,8 +167,9 @@ module _ {V : Type 0} (m : Meaning V) (v : V) (d : Dialog) (k : Keeps region d) 
   unfolding opening batch_setup
   begins = begins_at (place_of (wiring_of c 3) 0)
 
-  untouched_same : (w : World V) → w.shared.guest ≡ guest → w.guest ≡ actions → get_or w.written 0 [] ≡ replicate (length content) false → Untouched (acts_on content actions) w
-  untouched_same w memory left flags = record {
+  untouched_same : (w : World V) → w.control.plan.steps ≡ [] → w.shared.guest ≡ guest → w.guest ≡ actions → get_or w.written 0 [] ≡ replicate (length content) false → Untouched (acts_on content actions) w
+  untouched_same w quiet memory left flags = record {
+    quiet = quiet;
     flags = ap length flags ∙ length-replicate (length content) false ∙ b.long;
     long = ap (λ (g : Guest). length (content_of g.contents 0)) memory ∙ b.long;
     none = λ o other. ap (λ (g : Guest). length (content_of g.contents o)) memory ∙ rw (ne_eqb 0 o (λ same. other (sym same))) refl;
@@ -182,4 +183,4 @@ module _ {V : Type 0} (m : Meaning V) (v : V) (d : Dialog) (k : Keeps region d) 
 
   pub untouched : Untouched (acts_on content actions) (opening c (setup_for d.driver d.guest asks) service)
   unfolding opening batch_setup
-  untouched = untouched_same (opening c (setup_for d.driver d.guest asks) service) (opened_guest (place_of (wiring_of c 3) 0)) refl refl
+  untouched = untouched_same (opening c (setup_for d.driver d.guest asks) service) refl (opened_guest (place_of (wiring_of c 3) 0)) refl refl

@@ -15,3 +15,4 @@ pub mod Spanned
 pub mod Opened
 pub mod Beginning
 pub mod Ending
+pub mod Batched

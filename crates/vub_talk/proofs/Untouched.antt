@@ -78,6 +78,10 @@ length-act_on xs (Store o i bs) = elim (eqb o 0) as (λ b. length (cond b (over_
 length-act_on xs (Signal o) = refl
 length-act_on xs (Harvest o word) = refl
 
+pub length-acts_on : (xs : List ℕ) (actions : List Action) → length (acts_on xs actions) ≡ length xs
+length-acts_on xs [] = refl
+length-acts_on xs (action ∷ actions) = length-acts_on (act_on xs action) actions ∙ length-act_on xs action
+
 act_agrees : (xs ys : List ℕ) (action : Action) (k : ℕ) → length xs ≡ length ys → get_or xs k 0 ≡ get_or ys k 0 → get_or (act_on xs action) k 0 ≡ get_or (act_on ys action) k 0
 act_agrees xs ys (Store o i bs) k long same = elim (eqb o 0) as (λ b. get_or (cond b (over_if xs i bs) xs) k 0 ≡ get_or (cond b (over_if ys i bs) ys) k 0) [ true ↦ over_if_agrees xs ys i bs k long same | false ↦ same ]
 act_agrees xs ys (Signal o) k long same = same
@@ -215,6 +219,7 @@ flags_none flags (s ∷ spots) i within is =
 
 -- where no byte was written the content is, with what the guest has still to store, as the guest's stores alone make it
 pub record Untouched {V : Type 0} (end : List ℕ) (w : World V) : Type 0 where
+  pub quiet : w.control.plan.steps ≡ []
   pub flags : length (get_or w.written 0 []) ≡ 1048576
   pub long : length (content_of w.shared.guest.contents 0) ≡ 1048576
   pub none : (o : ℕ) → o ≢ 0 → length (content_of w.shared.guest.contents o) ≡ 0
@@ -226,18 +231,20 @@ module _ {V : Type 0} (m : Meaning V) (end : List ℕ) where
   untouched_guest w (action ∷ actions) is now some =
       let content = content_acted w.shared action (omega (arith, now.long)) in
       record {
+        quiet = now.quiet;
         flags = now.flags;
         none = λ o other. length_acted w.shared action o ∙ now.none o other;
         long = ap length content ∙ length-act_on (content_of w.shared.guest.contents 0) action ∙ now.long;
         same = λ i below none. ap (λ xs. get_or (acts_on xs actions) i 0) content ∙ ap (λ list. get_or (acts_on (content_of w.shared.guest.contents 0) list) i 0) (sym is) ∙ now.same i below none;
       }
 
-  untouched_step : (w : World V) (p : Party) (l : Play) → May w p l → w.control.plan.steps ≡ [] → Untouched end w → Untouched end (after m w p l)
-  untouched_step w party.Guest play.Guest may quiet now = untouched_guest w w.guest refl now may
-  untouched_step w party.Control (play.Control s said) may quiet now = absurd (let none : MayControl w.shared [] s said = subst (λ steps. MayControl w.shared steps s said) quiet may in none)
-  untouched_step w (party.Worker k) l may quiet now =
+  untouched_step : (w : World V) (p : Party) (l : Play) → May w p l → Untouched end w → Untouched end (after m w p l)
+  untouched_step w party.Guest play.Guest may now = untouched_guest w w.guest refl now may
+  untouched_step w party.Control (play.Control s said) may now = absurd (let none : MayControl w.shared [] s said = subst (λ steps. MayControl w.shared steps s said) now.quiet may in none)
+  untouched_step w (party.Worker k) l may now =
       let only = confined-work w.shared m w.wiring k (phase_at w.phases k) l in
       record {
+        quiet = now.quiet;
         flags = length-with_spots w.written (written_by w.shared l (phase_at w.phases k)) ∙ now.flags;
         long = only.lengths 0 ∙ now.long;
         none = λ o other. only.lengths o ∙ now.none o other;
@@ -245,10 +252,16 @@ module _ {V : Type 0} (m : Meaning V) (end : List ℕ) where
             let parts = flags_none w.written (written_by w.shared l (phase_at w.phases k)) i (omega (arith, now.flags)) none in
             acts_agree w.guest _ _ i (only.lengths 0) (only.bytes 0 i parts.1) ∙ now.same i below parts.0;
       }
-  untouched_step w p l may quiet now = absurd may
+  untouched_step w p l may now = absurd may
 
-  pub untouched_turn : (w : World V) (p : Party) (l : Play) (z : World V) → Turn m w p l z → w.control.plan.steps ≡ [] → Untouched end w → Untouched end z
-  untouched_turn w p l z t quiet now =
+  untouched_turn : (w : World V) (p : Party) (l : Play) (z : World V) → Turn m w p l z → Untouched end w → Untouched end z
+  untouched_turn w p l z t now =
       turn-cases m w p z (λ l. Untouched end z)
       (λ same. subst (λ (x : World V). Untouched end x) (sym same) now)
-      (λ l may is. subst (λ (x : World V). Untouched end x) (sym is) (untouched_step w p l may quiet now)) l t
+      (λ l may is. subst (λ (x : World V). Untouched end x) (sym is) (untouched_step w p l may now)) l t
+
+  pub run_untouched : (turns : List ℕ) (plays : List Play) (w z : World V) → IsRun m turns plays w z → Untouched end w → Untouched end z
+  run_untouched [] [] w z run now = subst (λ (x : World V). Untouched end x) (sym run) now
+  run_untouched [] (l ∷ plays) w z run now = absurd run
+  run_untouched (t ∷ turns) [] w z run now = absurd run
+  run_untouched (t ∷ turns) (l ∷ plays) w z run now = run_untouched turns plays run.0 z run.2 (untouched_turn w (party_of t) l run.0 run.1 now)
