@@ -16,3 +16,4 @@ pub mod Opened
 pub mod Beginning
 pub mod Ending
 pub mod Batched
+pub mod Pushed
