@@ -1,6 +1,6 @@
 -- A batch takes a conversation on: its answers are the service's replies to its asks.
 use Rattle.std.proofs.Common.{◌≡◌, ◌≢◌, ℕ, zero, suc, ◌+◌, ◌-◌, ◌*◌, ◌^◌, ◌<◌, ◌≤◌, ◌⊎◌, inl, inr, Bool, true, false, List, [], ◌∷◌, ◌++◌, length, map, take, get_or, Option, Some, None, Result, Ok, Err, IsOk, refl, sym, ap, ap₂, subst, ◌∙◌, arith}
-use Rattle.std.proofs.lemmas.List.{append-nil, take_all, length-map}
+use Rattle.std.proofs.lemmas.List.{append-nil, take_all, length-append}
 use Rattle.vub_mem.specs.Memory.{Guest}
 use Rattle.vub_mem.specs.Place.{content_of}
 use Rattle.vub_queue.specs.declared.chain.Chain.{Chain}
@@ -30,7 +30,7 @@ use Rattle.vub_driver.proofs.Collecting.{collects, keeps_collected, never_refuse
 use Rattle.vub_driver.proofs.Flat.{IsFlat}
 use Rattle.vub_driver.proofs.Kept.{Keeps, taken_by, taken_low, length-numbered}
 use Rattle.vub_talk.specs.declared.ask.Ask.{Ask}
-use Rattle.vub_talk.specs.Asking.{AreSmall, region}
+use Rattle.vub_talk.specs.Asking.{AreSmall, MaySubmit, region}
 use Rattle.vub_talk.specs.Replies.{asked_by, replies_to, value_after}
 use Rattle.vub_talk.specs.Talking.{Collects, guest_asked, spans_stored, state_asked}
 use Rattle.vub_talk.proofs.Gathering.{Goal, Stage, actions_from}
@@ -41,7 +41,13 @@ use Rattle.vub_talk.proofs.Spanned.{content_spanned, spans_over, spans_whole}
 use Rattle.vub_talk.proofs.Untouched.{Untouched, acts_on, regions_stored}
 use Rattle.vub_model.specs.Opening.{opening}
 use Rattle.vub_talk.specs.Batches.{asks_stored, batch_setup}
-use Rattle.vub_talk.specs.Machine.{setup_for}
+use Rattle.vub_talk.specs.Machine.{constants_in, fixed, setup_for}
+use Rattle.vub_model.specs.declared.setup.Setup.{Setup}
+use Rattle.vub_proto.specs.declared.fixed.FixedDevice.{FixedDevice}
+use Rattle.vub_driver.specs.declared.layout.Layout.{Layout}
+use Rattle.vub_core.specs.DeviceRun.{DeviceState}
+use Rattle.vub_core.specs.Outcome.{IsPlayed}
+use Rattle.vub_model.specs.DeviceCalls.{Telling}
 use Rattle.vub_talk.specs.Talking.{HasRun}
 use Rattle.vub_talk.specs.Talks.{Talks, IsTrusted}
 use Rattle.vub_talk.proofs.Beginning.{IsBetween, begins, untouched}
@@ -140,3 +146,50 @@ module _ {V : Type 0} (m : Meaning V) (v : V) where
         collects = got;
         long = e.long;
       }
+
+  -- the same, as the steps of a batch tell it
+  pub batch_stands : (asked : List Asked) (s : State) (g : Guest) (answers : List Done) (service end : V) (k : Constants) (asks : List Ask) (run : Run) (l : Layout) (setup : Setup) (device : FixedDevice) (made final : Guest) (spans : List Span) →
+      l ≡ s.layout → MaySubmit s g.regions (length asks) → AreSmall l asks → 0 < k.queues → device ≡ fixed k →
+      setup ≡ batch_setup l s.submitted (content_of g.contents 0) (asks_stored l s.submitted asks ++ Signal 1 ∷ []) → HasRun m (constants_in device) setup service end run →
+      made ≡ guest_asked l g s.submitted asks → spans ≡ run.written → final ≡ spans_stored made spans → Talks m v asked s g answers service →
+      Ends m v (asked ++ map (λ a. asked_by a) asks) (record { state = state_asked s asks; answers = answers }) end final
+  batch_stands asked s g answers service end k asks run l setup device made final spans layout may small some device_is setup_is has made_is spans_are final_is talks =
+      let Run : Constants → Setup → Type 0 = λ c x. HasRun m c x service end run in
+      let same : setup ≡ setup_for s g asks = setup_is ∙ ap (λ x. batch_setup x s.submitted (content_of g.contents 0) (asks_stored x s.submitted asks ++ Signal 1 ∷ [])) layout in
+      let ran : HasRun m (constants_in (fixed k)) (setup_for s g asks) service end run = subst (λ x. HasRun m (constants_in (fixed k)) x service end run) same (subst (λ (x : FixedDevice). HasRun m (constants_in x) setup service end run) device_is has) in
+      let memory : final ≡ spans_stored (guest_asked s.layout g s.submitted asks) run.written =
+      final_is ∙ ap₂ spans_stored (made_is ∙ ap (λ x. guest_asked x g s.submitted asks) layout) spans_are in
+      subst (λ x. Ends m v (asked ++ map (λ a. asked_by a) asks) (record { state = state_asked s asks; answers = answers }) end x) (sym memory)
+      (batch_ends asked s g answers service end (constants_in (fixed k)) asks run talks some may.free may.counted (subst (λ x. AreSmall x asks) layout small) ran)
+
+  state_counts : (s : State) (asks : List Ask) → ((state_asked s asks).submitted ≡ s.submitted + length asks) × ((state_asked s asks).collected ≡ s.collected)
+  state_counts s [] = (omega arith, refl)
+  state_counts s (a ∷ asks) = (let rest = state_counts (state_submitted s a.room) asks in (omega (arith, rest.0), rest.1))
+
+  length_asked : (asks : List Ask) → length (map (λ a. asked_by a) asks) ≡ length asks
+  length_asked [] = refl
+  length_asked (a ∷ asks) = ap suc (length_asked asks)
+
+  pub batch_answers : (asked : List Asked) (s mid : State) (g final : Guest) (answers : List Done) (service end : V) (asks : List Ask) (t : State) (new : List Done) →
+      Talks m v asked s g answers service → Ends m v (asked ++ map (λ a. asked_by a) asks) (record { state = state_asked s asks; answers = answers }) end final →
+      mid ≡ state_asked s asks → Collects (length asks) mid final answers t new → Talks m v (asked ++ map (λ a. asked_by a) asks) t final new end
+  batch_answers asked s mid g final answers service end asks t new talks e mid_is so =
+      let counts = state_counts s asks in
+      let long : length (asked ++ map (λ a. asked_by a) asks) ≡ length asked + length asks = length-append asked (map (λ a. asked_by a) asks) ∙ ap (λ n. length asked + n) (length_asked asks) in
+      batch_talks (asked ++ map (λ a. asked_by a) asks) (record { state = state_asked s asks; answers = answers }) end final (length asks) t new e
+      (omega (arith, counts.0, talks.submits, long)) (omega (arith, counts.1, talks.collects, long)) (subst (λ x. Collects (length asks) x final answers t new) mid_is so)
+
+-- a run to its rest
+pub has_run : {V D : Type 0} {m : Meaning V} {t : Telling D} {constants : Constants} {setup : Setup} {schedule : List ℕ} {v end : V} {before now : DeviceState D} {run : Run} →
+    IsPlayed m t constants setup schedule v end before now run → run.rest ≡ true → HasRun m constants setup v end run
+has_run {schedule = schedule} played rest = record {
+  schedule = schedule;
+  plays = played.plays;
+  closing = played.closing;
+  is_run = played.is_run;
+  fits = played.fits.calls;
+  value = played.value;
+  written = played.shows.written_is;
+  counts = played.shows.counts_are;
+  rests = played.shows.rests.0 rest;
+}

@@ -1,6 +1,9 @@
 -- One ask more, one span more, one collect more.
 use Rattle.std.proofs.Common.{◌≡◌, ℕ, zero, suc, ◌+◌, ◌-◌, ◌<◌, ◌≤◌, Bool, true, false, List, [], ◌∷◌, ◌++◌, length, Some, Ok, Err, Result, Option, refl, sym, ap, subst, ◌∙◌, arith, leb}
 use Rattle.std.proofs.lemmas.Bool.{cond-true, cond-false, le-leb, leb-false}
+use Rattle.std.specs.Prelude.{IfErr}
+use Rattle.std.specs.Result.{IsErrAnd}
+use Rattle.vub_talk.specs.declared.fault.TalkFault.{TalkFault}
 use Rattle.vub_mem.specs.Memory.{Guest}
 use Rattle.vub_mem.specs.Place.{content_of, store_at}
 use Rattle.vub_model.specs.declared.records.Span.{Span}
@@ -73,3 +76,8 @@ trusted_on n s g old t new so trust =
     let fresh = collects_other n s g old d.answers t new so in
     let mine : Collects n d.driver d.guest d.answers t fresh.0 = subst (λ x. Collects n x d.guest d.answers t fresh.0) (sym trust.2) (subst (λ x. Collects n s x d.answers t fresh.0) (sym trust.3) fresh.1) in
     (record d { driver = t; answers = fresh.0 }, (collected_on n d trust.1 t fresh.0 mine).0, refl, trust.3)
+
+-- an error that was passed on
+pub err_by : {T : Type 0} (r : Result T TalkFault) (e : TalkFault) (P : TalkFault → Type 0) → IsErrAnd r (λ x. x ≡ e) → P e → IfErr r P
+err_by (Ok x) e P is holds = tt
+err_by (Err x) e P is holds = subst P (sym is) holds
