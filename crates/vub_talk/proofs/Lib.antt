@@ -17,3 +17,4 @@ pub mod Beginning
 pub mod Ending
 pub mod Batched
 pub mod Pushed
+pub mod Started
