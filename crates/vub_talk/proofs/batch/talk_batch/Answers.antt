@@ -38,11 +38,11 @@ returns-in_err-collect_all-clause-trusted g c =
     let memory = c.args.conversation.now.memory.guest in
     let asks = c.args.asks.now in
     let mine : (v : g.row.V.Denot) → (asked : List Asked) → Talks (meaning_by g.V.Service) v asked c.args.conversation.now.driver c.args.conversation.now.memory.guest c.args.talk.now.answers c.args.service.now → IsSlow c.in_err-collect_all.field-0.0 = λ v asked talks.
-        let ends = batch_stands m v asked s memory c.args.talk.now.answers c.args.service.now c.play.new.service c.args.constants.now asks c.in_ok-run.run' c.args.layout.now c.in_ok-setup.setup c.in_ok-device.device
-        c.submit_all.new.self.memory.guest c.store_all.new.self.memory.guest c.as_slice.result.now
-        c.requires.layout c.requires.may c.requires.small c.requires.queues c.in_ok-device.ensures c.in_ok-setup.ensures.setup c.in_ok-run.ensures.run c.in_ok-setup.ensures.memory c.as_slice.ensures c.store_all.ensures.guest talks in
-        c.in_err-collect_all.ensures.trusted
-        (subst (λ x. IsTrusted x c.store_all.new.self.memory.guest) (sym (c.store_all.ensures.driver ∙ c.in_ok-setup.ensures.state))
-        (trusts m v (asked ++ map (λ a. asked_by a) asks) (record { state = state_asked s asks; answers = c.args.talk.now.answers }) c.play.new.service c.store_all.new.self.memory.guest ends)) in
+    let ends = batch_stands m v asked s memory c.args.talk.now.answers c.args.service.now c.play.new.service c.args.constants.now asks c.in_ok-run.run' c.args.layout.now c.in_ok-setup.setup c.in_ok-device.device
+    c.submit_all.new.self.memory.guest c.store_all.new.self.memory.guest c.as_slice.result.now
+    c.requires.layout c.requires.may c.requires.small c.requires.queues c.in_ok-device.ensures c.in_ok-setup.ensures.setup c.in_ok-run.ensures.run c.in_ok-setup.ensures.memory c.as_slice.ensures c.store_all.ensures.guest talks in
+    c.in_err-collect_all.ensures.trusted
+    (subst (λ x. IsTrusted x c.store_all.new.self.memory.guest) (sym (c.store_all.ensures.driver ∙ c.in_ok-setup.ensures.state))
+    (trusts m v (asked ++ map (λ a. asked_by a) asks) (record { state = state_asked s asks; answers = c.args.talk.now.answers }) c.play.new.service c.store_all.new.self.memory.guest ends)) in
     let P : TalkFault → Type 0 = λ e. (v : g.row.V.Denot) → (asked : List Asked) → Talks (meaning_by g.V.Service) v asked c.args.conversation.now.driver c.args.conversation.now.memory.guest c.args.talk.now.answers c.args.service.now → IsSlow e in
     err_by c.from_residual-in_err-collect_all.result c.in_err-collect_all.field-0.0 P c.from_residual-in_err-collect_all.ensures.1 mine
