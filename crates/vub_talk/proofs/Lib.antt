@@ -18,3 +18,4 @@ pub mod Ending
 pub mod Batched
 pub mod Pushed
 pub mod Started
+pub mod Telling
