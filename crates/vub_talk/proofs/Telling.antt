@@ -5,7 +5,7 @@ use Rattle.std.proofs.lemmas.Bool.{cases_eq, cases_lt, ne_eqb, lt-ltb}
 use Rattle.std.proofs.lemmas.List.{get_or-set_same, get_or-set_other, set_past}
 use Rattle.vub_event.specs.declared.event.Event.{Event}
 use Rattle.vub_event.specs.declared.member.Member.{Member}
-use Rattle.vub_event.specs.HostTable.{HostTable, event_at, members_at, with_event}
+use Rattle.vub_event.specs.HostTable.{HostTable, event_at, members_at, with_event, with_members}
 use Rattle.vub_event.specs.InterestList.{member_of}
 use Rattle.vub_model.specs.Frame.{is_member}
 use Rattle.vub_model.specs.RingRecord.{Vring, closed_ring}
@@ -57,7 +57,7 @@ module _ {V : Type 0} (before put : ℕ) (h z : Shared V) (same : SameEvents h z
   one_more (Some e) some small = (rw (lt-ltb e.count (2 ^ 64 - 2) small) refl, refl)
 
   -- the call is signalled
-  pub tells_raised : put < 2 ^ 64 - 2 → z.table ≡ with_event h.table 2 (raised_option (event_at h.table 2)) → Tells before (put + 1) z
+  pub tells_raised : put < before + (2 ^ 64 - 2) → z.table ≡ with_event h.table 2 (raised_option (event_at h.table 2)) → Tells before (put + 1) z
   tells_raised small table =
       let more = one_more (event_at h.table 2) now.event (omega (arith, now.count)) in
       let new = raised_option (event_at h.table 2) in
@@ -70,6 +70,26 @@ module _ {V : Type 0} (before put : ℕ) (h z : Shared V) (same : SameEvents h z
         call = same.call ∙ now.call;
         kicks = λ q. ap (λ k. is_object k 2) (same.kicks q) ∙ now.kicks q;
       }
+
+off_set : (lists : List (List Member)) (j i : ℕ) (new : List Member) → is_member new 2 ≡ false → is_member (slice_index_or lists i []) 2 ≡ false → is_member (slice_index_or (set lists j new) i []) 2 ≡ false
+off_set lists j i new none old = elim (cases_eq i j) [
+  | inl same ↦ elim (cases_lt j (length lists)) [
+    | inl within ↦ ap (λ k. is_member (slice_index_or (set lists j new) k []) 2) same ∙ ap (λ ms. is_member ms 2) (get_or-set_same lists j new [] within) ∙ none
+    | inr past ↦ ap (λ ls. is_member (slice_index_or ls i []) 2) (set_past lists j new past) ∙ old
+  ]
+  | inr other ↦ ap (λ ms. is_member ms 2) (get_or-set_other lists j i new [] other) ∙ old
+]
+
+-- a list has another member
+pub tells_joined : {V : Type 0} (before put : ℕ) (h z : Shared V) → SameEvents h z → Tells before put h → (list : ℕ) (new : List Member) → is_member new 2 ≡ false → z.table ≡ with_members h.table list new → Tells before put z
+tells_joined before put h z same now list new none table = record {
+  there = subst (λ (t : HostTable). 2 < length t.objects) (sym table) now.there;
+  event = ap (λ t. is_some (event_at t 2)) table ∙ now.event;
+  count = now.count ∙ ap (λ t. before + count_at t 2) (sym table);
+  unlisted = λ i. ap (λ t. is_member (members_at t i) 2) table ∙ off_set h.table.lists list i new none (now.unlisted i);
+  call = same.call ∙ now.call;
+  kicks = λ q. ap (λ k. is_object k 2) (same.kicks q) ∙ now.kicks q;
+}
 
 -- no member has a token
 pub no_token : (members : List Member) (token : ℕ) → is_member members 2 ≡ false → has_token (member_of members 2) token ≡ false

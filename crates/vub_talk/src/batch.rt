@@ -1,5 +1,5 @@
 //! One batch of a conversation.
-ghost use Rattle.std.specs.Prelude.{◌≡◌, ◌+◌, ◌<◌, ◌++◌, ◌∷◌, [], length, map, None, List, IfOk, IfErr, OnOk};
+ghost use Rattle.std.specs.Prelude.{◌≡◌, ◌+◌, ◌<◌, ◌++◌, ◌∷◌, [], ℕ, length, map, slice_index_or, None, List, IfOk, IfErr, OnOk};
 ghost use Rattle.vub_core.specs.Meanings.{meaning_by};
 ghost use Rattle.vub_driver.specs.Machine.{Asked};
 ghost use Rattle.vub_mem.specs.Place.{content_of};
@@ -8,7 +8,7 @@ ghost use Rattle.vub_talk.specs.Asking.{AreSmall, HasMoved, MaySubmit, NumbersOn
 ghost use Rattle.vub_talk.specs.Late.{IsLate};
 ghost use Rattle.vub_talk.specs.Machine.{constants_in, fixed, setup_for};
 ghost use Rattle.vub_talk.specs.Replies.{asked_by};
-ghost use Rattle.vub_talk.specs.Talking.{HasRun};
+ghost use Rattle.vub_talk.specs.Talking.{calls_of, HasRun};
 ghost use Rattle.vub_talk.specs.Talks.{IsSlow, Talks};
 
 use crate::ask::Ask;
@@ -73,11 +73,16 @@ fn play<V: Service>(
 }
 
 /// The count of the call.
-fn calls_in(counts: &[Count]) -> u64 {
-    match counts.iter().find(|count| count.object == CALL) {
-        Some(count) => count.count,
-        None => 0,
+#[tactic(auto, using(crate::proofs::Pushed::calls_here, crate::proofs::Pushed::calls_end))]
+fn calls_in(counts: &[Count]) -> u64
+    ensures { result ≡ calls_of counts.now }
+{
+    for count in counts {
+        if count.object == CALL {
+            return count.count;
+        }
     }
+    0
 }
 
 /// Plays one batch: the guest submits the asks, the machine serves them, and the driver collects the replies.
@@ -101,6 +106,7 @@ pub(crate) fn talk_batch<V: Service>(
     requires valid { fault_of (constants_in (fixed constants.now))
         (setup_for conversation.old.driver conversation.old.memory.guest asks.now) ≡ None }
     requires queues { 0 < constants.now.queues }
+    requires exits { (w : ℕ) → slice_index_or (constants_in (fixed constants.now)).exits w None ≡ None }
     ensures driver { OnOk result
         (HasMoved (length asks.now) (length asks.now) conversation.old.driver conversation.new.driver) }
     ensures regions { OnOk result
@@ -116,6 +122,9 @@ pub(crate) fn talk_batch<V: Service>(
         service.old →
         Talks (meaning_by V.Service) v (asked ++ map (λ a. asked_by a) asks.now) conversation.new.driver
         conversation.new.memory.guest talk.new.answers service.new) }
+    ensures counted { OnOk result ((v : V) → (asked : List Asked) →
+        Talks (meaning_by V.Service) v asked conversation.old.driver conversation.old.memory.guest talk.old.answers
+        service.old → talk.new.calls ≡ talk.old.calls ++ length asks.now ∷ []) }
     ensures trusted { IfErr result (λ e. (v : V) → (asked : List Asked) →
         Talks (meaning_by V.Service) v asked conversation.old.driver conversation.old.memory.guest talk.old.answers
         service.old → IsSlow e) }
