@@ -1,10 +1,15 @@
 //! One batch of a conversation.
-ghost use Rattle.std.specs.Prelude.{◌≡◌, ◌+◌, ◌++◌, ◌∷◌, [], length, None, IfOk, IfErr, OnOk};
+ghost use Rattle.std.specs.Prelude.{◌≡◌, ◌+◌, ◌<◌, ◌++◌, ◌∷◌, [], ℕ, length, map, slice_index_or, None, List, IfOk, IfErr, OnOk};
+ghost use Rattle.vub_core.specs.Meanings.{meaning_by};
+ghost use Rattle.vub_driver.specs.Machine.{Asked};
 ghost use Rattle.vub_mem.specs.Place.{content_of};
 ghost use Rattle.vub_model.specs.ValidSetup.{fault_of};
 ghost use Rattle.vub_talk.specs.Asking.{AreSmall, HasMoved, MaySubmit, NumbersOn};
 ghost use Rattle.vub_talk.specs.Late.{IsLate};
 ghost use Rattle.vub_talk.specs.Machine.{constants_in, fixed, setup_for};
+ghost use Rattle.vub_talk.specs.Replies.{asked_by};
+ghost use Rattle.vub_talk.specs.Talking.{calls_of, HasRun};
+ghost use Rattle.vub_talk.specs.Talks.{IsSlow, Talks};
 
 use crate::ask::Ask;
 use crate::constants::{CALL, MEMORY};
@@ -50,6 +55,9 @@ fn play<V: Service>(
 ) -> Result<Run, TalkFault>
     requires { fault_of (constants_in device.old) setup.now ≡ None }
     ensures only { IfErr result IsLate }
+    ensures run { IfOk result
+        (HasRun (meaning_by V.Service) (constants_in device.old) setup.now service.old service.new) }
+    ensures slow { IfErr result IsSlow }
 {
     match drive(alloc, setup, device, service, schedule) {
         Ok(run) => {
@@ -65,11 +73,16 @@ fn play<V: Service>(
 }
 
 /// The count of the call.
-fn calls_in(counts: &[Count]) -> u64 {
-    match counts.iter().find(|count| count.object == CALL) {
-        Some(count) => count.count,
-        None => 0,
+#[tactic(auto, using(crate::proofs::Pushed::calls_here, crate::proofs::Pushed::calls_end))]
+fn calls_in(counts: &[Count]) -> u64
+    ensures { result ≡ calls_of counts.now }
+{
+    for count in counts {
+        if count.object == CALL {
+            return count.count;
+        }
     }
+    0
 }
 
 /// Plays one batch: the guest submits the asks, the machine serves them, and the driver collects the replies.
@@ -92,6 +105,8 @@ pub(crate) fn talk_batch<V: Service>(
     requires small { AreSmall layout.now asks.now }
     requires valid { fault_of (constants_in (fixed constants.now))
         (setup_for conversation.old.driver conversation.old.memory.guest asks.now) ≡ None }
+    requires queues { 0 < constants.now.queues }
+    requires exits { (w : ℕ) → slice_index_or (constants_in (fixed constants.now)).exits w None ≡ None }
     ensures driver { OnOk result
         (HasMoved (length asks.now) (length asks.now) conversation.old.driver conversation.new.driver) }
     ensures regions { OnOk result
@@ -102,6 +117,17 @@ pub(crate) fn talk_batch<V: Service>(
         talk.old.answers talk.new.answers) }
     ensures calls { OnOk result (length talk.new.calls ≡ length talk.old.calls + 1) }
     ensures only { IfErr result IsLate }
+    ensures talks { OnOk result ((v : V) → (asked : List Asked) →
+        Talks (meaning_by V.Service) v asked conversation.old.driver conversation.old.memory.guest talk.old.answers
+        service.old →
+        Talks (meaning_by V.Service) v (asked ++ map (λ a. asked_by a) asks.now) conversation.new.driver
+        conversation.new.memory.guest talk.new.answers service.new) }
+    ensures counted { OnOk result ((v : V) → (asked : List Asked) →
+        Talks (meaning_by V.Service) v asked conversation.old.driver conversation.old.memory.guest talk.old.answers
+        service.old → talk.new.calls ≡ talk.old.calls ++ length asks.now ∷ []) }
+    ensures trusted { IfErr result (λ e. (v : V) → (asked : List Asked) →
+        Talks (meaning_by V.Service) v asked conversation.old.driver conversation.old.memory.guest talk.old.answers
+        service.old → IsSlow e) }
 {
     let setup = conversation.submit_all(alloc, layout, asks)?;
     let mut device = device_of(alloc, constants)?;

@@ -2,13 +2,16 @@
 ghost use Rattle.std.specs.Prelude.{◌≡◌, ◌⊎◌, ◌+◌, ◌-◌, ◌++◌, ◌∷◌, ◌<◌, ◌^◌, [], false, None, Some, length, option_map};
 ghost use Rattle.std.specs.Prelude.{IfOk, IfErr, IfSome, OnOk, OnErr};
 ghost use Rattle.vub_mem.specs.Place.{content_of};
-ghost use Rattle.vub_driver.specs.Calls.{new_state, state_submitted, submit_fault};
+ghost use Rattle.vub_driver.specs.Calls.{new_state, state_submitted, submit_fault, submit_guest};
 ghost use Rattle.vub_driver.specs.Layouts.{new_fault};
 ghost use Rattle.vub_driver.specs.Writings.{writes_of};
+ghost use Rattle.vub_model.specs.World.{stored};
 ghost use Rattle.vub_model.specs.declared.setup.Guest.TheVariants.{Signal};
 ghost use Rattle.vub_talk.specs.Asking.{blank, zeros, AreSmall, HasMoved, MaySubmit, NumbersOn};
 ghost use Rattle.vub_talk.specs.Batches.{asks_stored, batch_setup, stores_of};
 ghost use Rattle.vub_talk.specs.Late.{refusal_of, IsLate};
+ghost use Rattle.vub_talk.specs.Talking.{guest_asked, spans_stored, state_asked, Collects};
+ghost use Rattle.vub_talk.specs.Talks.{IsSlow, IsTrusted};
 
 use crate::ask::Ask;
 use crate::constants::{MEMORY, MEMORY_LEN, MEMORY_START};
@@ -98,6 +101,7 @@ fn store_span(memory: &mut GuestMemory<()>, span: &Span)
     ensures bytes { length (content_of memory.new.guest.contents 0)
         ≡ length (content_of memory.old.guest.contents 0) }
     ensures regions { memory.new.guest.regions ≡ memory.old.guest.regions }
+    ensures guest { memory.new.guest ≡ stored memory.old.guest 0 span.now.offset span.now.bytes }
 {
     let len = memory.content(MEMORY).len();
     let bytes = span.bytes.as_slice();
@@ -125,6 +129,8 @@ impl Conversation {
         ensures regions { OnOk result (self.new.memory.guest.regions ≡ self.old.memory.guest.regions) }
         ensures bytes { OnOk result (length (content_of self.new.memory.guest.contents 0)
             ≡ length (content_of self.old.memory.guest.contents 0)) }
+        ensures memory { OnOk result (self.new.memory.guest ≡ submit_guest self.old.driver.layout self.old.memory.guest
+            self.old.driver.submitted ask.now.request ask.now.room) }
         ensures only { IfErr result (λ e. e ≡ TalkFault.OutOfMemory) }
     {
         let request = ask.request.as_slice();
@@ -156,6 +162,9 @@ impl Conversation {
         ensures setup { IfOk result (λ setup. setup ≡ batch_setup layout.now self.old.driver.submitted
             (content_of self.old.memory.guest.contents 0)
             (asks_stored layout.now self.old.driver.submitted asks.now ++ Signal 1 ∷ [])) }
+        ensures state { OnOk result (self.new.driver ≡ state_asked self.old.driver asks.now) }
+        ensures memory { OnOk result (self.new.memory.guest
+            ≡ guest_asked layout.now self.old.memory.guest self.old.driver.submitted asks.now) }
         ensures only { IfErr result (λ e. e ≡ TalkFault.OutOfMemory) }
     {
         let number = self.driver.submitted();
@@ -175,6 +184,7 @@ impl Conversation {
             ≡ length (content_of self.old.memory.guest.contents 0) }
         ensures regions { self.new.memory.guest.regions ≡ self.old.memory.guest.regions }
         ensures driver { self.new.driver ≡ self.old.driver }
+        ensures guest { self.new.memory.guest ≡ spans_stored self.old.memory.guest spans.now }
     {
         for span in spans {
             store_span(&mut self.memory, span);
@@ -193,6 +203,9 @@ impl Conversation {
     ) -> Result<(), TalkFault>
         ensures driver { OnOk result (HasMoved 0 1 self.old.driver self.new.driver) }
         ensures answers { OnOk result (NumbersOn self.old.driver.collected 1 answers.old answers.new) }
+        ensures replies { OnOk result
+            (Collects 1 self.old.driver self.old.memory.guest answers.old self.new.driver answers.new) }
+        ensures trusted { IfErr result (λ e. IsTrusted self.old.driver self.old.memory.guest → IsSlow e) }
         ensures memory { self.new.memory ≡ self.old.memory }
         ensures only { IfErr result IsLate }
     {
@@ -219,6 +232,9 @@ impl Conversation {
     ) -> Result<(), TalkFault>
         ensures driver { OnOk result (HasMoved 0 count self.old.driver self.new.driver) }
         ensures answers { OnOk result (NumbersOn self.old.driver.collected count answers.old answers.new) }
+        ensures replies { OnOk result
+            (Collects count self.old.driver self.old.memory.guest answers.old self.new.driver answers.new) }
+        ensures trusted { IfErr result (λ e. IsTrusted self.old.driver self.old.memory.guest → IsSlow e) }
         ensures memory { self.new.memory ≡ self.old.memory }
         ensures only { IfErr result IsLate }
     {

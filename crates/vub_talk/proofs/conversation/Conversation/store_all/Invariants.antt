@@ -1,5 +1,6 @@
-use Rattle.std.proofs.Common.{◌≡◌, length}
+use Rattle.std.proofs.Common.{◌≡◌, length, take}
 use Rattle.vub_mem.specs.Place.{content_of}
+use Rattle.vub_talk.specs.Talking.{spans_stored}
 use Rattle.vub_talk.proofs.conversation.Conversation.store_all.Given as goal
 
 abbrev pub invariant-loop-span : goal.invariant-loop-span
@@ -8,4 +9,5 @@ invariant-loop-span l =
       bytes : length (content_of l.self.memory.guest.contents 0) ≡ length (content_of l.initial.self.memory.guest.contents 0);
       regions : l.self.memory.guest.regions ≡ l.initial.self.memory.guest.regions;
       driver : l.self.driver ≡ l.initial.self.driver;
+      guest : l.self.memory.guest ≡ spans_stored l.initial.self.memory.guest (take l.span-index l.spans);
     }

@@ -1,0 +1,5 @@
+use Rattle.vub_talk.proofs.Batched.{has_run}
+use Rattle.vub_talk.proofs.batch.play.Goals as goal
+
+pub returns-then-run-clause-run : goal.returns-then-run-clause-run
+returns-then-run-clause-run g c = has_run c.in-Ok.ensures.played c.if-run.true
