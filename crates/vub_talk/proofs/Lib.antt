@@ -4,3 +4,4 @@ pub mod Asked
 pub mod Batching
 pub mod Collected
 pub mod Valid
+pub mod Guarding

@@ -3,4 +3,5 @@ pub mod Batches
 pub mod Faults
 pub mod Late
 pub mod Machine
+pub mod Ready
 pub mod Talked
