@@ -5,3 +5,4 @@ pub mod Batching
 pub mod Collected
 pub mod Valid
 pub mod Guarding
+pub mod Keeping
