@@ -2,7 +2,6 @@
 use Rattle.std.proofs.Common.{◌≡◌, ◌⊎◌, ℕ, ◌+◌, ◌*◌, ◌<◌, ◌≤◌, inl, inr, List, [], ◌∷◌, refl, sym, ap, subst, ◌∙◌, arith}
 use Rattle.std.specs.Int.{Width, w16, w32, w64, byte_len}
 use Rattle.vub_mem.specs.declared.region.Region.{Region}
-use Rattle.vub_mem.specs.Laws.{LiesAt}
 use Rattle.vub_mem.specs.Memory.{Guest}
 use Rattle.vub_mem.specs.Place.{number_at}
 use Rattle.vub_queue.specs.Chain.{descriptor_at}
@@ -15,59 +14,59 @@ use Rattle.vub_laws.proofs.Agreeing.{Agree, agree-changed, number-same, Off}
 use Rattle.vub_talk.specs.Ready.{IsHarmless, IsReady}
 use Rattle.vub_talk.proofs.Guarding.{Guarded, InTable, InIndex, one, lies-here}
 
--- any other byte
-abbrev pub Free : Layout → ℕ → ℕ → Type 0
-Free l o i = Guarded l o i → ⊥
+module _ (P : ℕ → Type 0) where
+  -- the byte has one of these addresses
+  abbrev pub Has : ℕ → ℕ → Type 0
+  Has o i = (o ≡ 0) × P (i + 1048576)
 
--- a change of other bytes alone
-pub record KeepsGuarded (l : Layout) (g h : Guest) : Type 0 where
-  pub flat : h.regions ≡ one
-  pub agree : Agree (Free l) h g
+  -- any other byte
+  abbrev pub Free : ℕ → ℕ → Type 0
+  Free o i = Has o i → ⊥
 
-pub keeps-guarded : (l : Layout) (g h : Guest) (spots : List Spot) → g.regions ≡ one → ((o i : ℕ) → IsSpot spots o i → Guarded l o i → ⊥) → ChangesOnly spots g h → KeepsGuarded l g h
-keeps-guarded l g h spots flat off only =
-    let same : Agree (Free l) g g = record { regions = refl; lengths = λ o. refl; bytes = λ o i apart. refl } in
-    record { flat = only.regions ∙ flat; agree = agree-changed (Free l) g g h spots off only same }
+  -- a change of other bytes alone
+  pub record Keeps (g h : Guest) : Type 0 where
+    pub flat : h.regions ≡ one
+    pub agree : Agree Free h g
 
-module _ (l : Layout) (g h : Guest) (kept : KeepsGuarded l g h) where
-  -- a number of guarded bytes is the same
-  kept-number : (w : Width) (a : ℕ) → ((x : ℕ) → a ≤ x → x < a + byte_len w → InTable l x ⊎ InIndex l x) → number_at w h a ≡ number_at w g a
-  kept-number w a guarded =
-      let O : List Region → Type 0 = λ rs. Off (Free l) rs a (byte_len w) in
-      let off : O one = λ k below o i lies free.
-          let at = lies-here (a + k) o i lies in
-          let X : ℕ → Type 0 = λ x. InTable l x ⊎ InIndex l x in
-          free (at.0, subst X at.1 (guarded (a + k) (omega arith) (omega (arith, below)))) in
-      sym (number-same (Free l) w h g a (subst O (sym kept.flat) off) kept.agree)
+  pub keeps : (g h : Guest) (spots : List Spot) → g.regions ≡ one → ((o i : ℕ) → IsSpot spots o i → Has o i → ⊥) → ChangesOnly spots g h → Keeps g h
+  keeps g h spots flat off only =
+      let same : Agree Free g g = record { regions = refl; lengths = λ o. refl; bytes = λ o i apart. refl } in
+      record { flat = only.regions ∙ flat; agree = agree-changed Free g g h spots off only same }
 
-  pub kept-index : number_at w16 h (avail_index_at l) ≡ number_at w16 g (avail_index_at l)
-  kept-index = kept-number w16 (avail_index_at l) (λ x low high. inr (record { low = low; high = omega (arith, high) }))
+  module _ (g h : Guest) (kept : Keeps g h) where
+    -- a number of such bytes is the same
+    pub kept-number : (w : Width) (a : ℕ) → ((x : ℕ) → a ≤ x → x < a + byte_len w → P x) → number_at w h a ≡ number_at w g a
+    kept-number w a these =
+        let O : List Region → Type 0 = λ rs. Off Free rs a (byte_len w) in
+        let off : O one = λ k below o i lies free.
+            let at = lies-here (a + k) o i lies in
+            free (at.0, subst P at.1 (these (a + k) (omega arith) (omega (arith, below)))) in
+        sym (number-same Free w h g a (subst O (sym kept.flat) off) kept.agree)
 
-  kept-part : (w : Width) (a k : ℕ) → l.desc ≤ a → a + 16 ≤ l.desc + 16 * l.size → k + byte_len w ≤ 16 → number_at w h (a + k) ≡ number_at w g (a + k)
-  kept-part w a k low high fits = kept-number w (a + k) (λ x from to. inl (record { low = omega (arith, low, from); high = omega (arith, to, high, fits) }))
+    pub kept-descriptor : (a : ℕ) → ((x : ℕ) → a ≤ x → x < a + 16 → P x) → descriptor_at h a ≡ descriptor_at g a
+    unfolding descriptor_at
+    kept-descriptor a these =
+        let addr = kept-number w64 a (λ x low high. these x low (omega (arith, high))) in
+        let len = kept-number w32 (a + 8) (λ x low high. these x (omega (arith, low)) (omega (arith, high))) in
+        let flags = kept-number w16 (a + 12) (λ x low high. these x (omega (arith, low)) (omega (arith, high))) in
+        let next = kept-number w16 (a + 14) (λ x low high. these x (omega (arith, low)) (omega (arith, high))) in
+        rw (addr, len, flags, next) refl
 
-  pub kept-descriptor : (a : ℕ) → l.desc ≤ a → a + 16 ≤ l.desc + 16 * l.size → descriptor_at h a ≡ descriptor_at g a
-  unfolding descriptor_at
-  kept-descriptor a low high =
-      let start : a + 0 ≡ a = omega arith in
-      let addr : number_at w64 h a ≡ number_at w64 g a = subst (λ x. number_at w64 h x ≡ number_at w64 g x) start (kept-part w64 a 0 low high (omega arith)) in
-      let len = kept-part w32 a 8 low high (omega arith) in
-      let flags = kept-part w16 a 12 low high (omega arith) in
-      let next = kept-part w16 a 14 low high (omega arith) in
-      rw (addr, len, flags, next) refl
+    pub kept-harmless : (l : Layout) (a : ℕ) → ((x : ℕ) → a ≤ x → x < a + 16 → P x) → IsHarmless l (descriptor_at g a) → IsHarmless l (descriptor_at h a)
+    kept-harmless l a these old =
+        let D : Descriptor → Type 0 = λ d. IsHarmless l d in
+        subst D (sym (kept-descriptor a these)) old
 
-  pub kept-harmless : (i : ℕ) → i < l.size → IsHarmless l (descriptor_at g (l.desc + 16 * i)) → IsHarmless l (descriptor_at h (l.desc + 16 * i))
-  kept-harmless i below old =
-      let D : Descriptor → Type 0 = λ d. IsHarmless l d in
-      subst D (sym (kept-descriptor (l.desc + 16 * i) (omega arith) (omega (arith, below)))) old
+abbrev pub IsGuarded : Layout → ℕ → Type 0
+IsGuarded l x = InTable l x ⊎ InIndex l x
 
--- such a change leaves memory ready
+-- a change of other bytes leaves memory ready
 pub ready-kept : (l : Layout) (n : ℕ) (g h : Guest) (spots : List Spot) → ((o i : ℕ) → IsSpot spots o i → Guarded l o i → ⊥) → ChangesOnly spots g h → IsReady l n g → IsReady l n h
 ready-kept l n g h spots off only was =
-    let kept = keeps-guarded l g h spots was.one off only in
+    let kept = keeps (IsGuarded l) g h spots was.one off only in
     record {
       one = kept.flat;
       long = only.lengths 0 ∙ was.long;
-      index = kept-index l g h kept ∙ was.index;
-      table = λ i below. kept-harmless l g h kept i below (was.table i below);
+      index = kept-number (IsGuarded l) g h kept w16 (avail_index_at l) (λ x low high. inr (record { low = low; high = omega (arith, high) })) ∙ was.index;
+      table = λ i below. kept-harmless (IsGuarded l) g h kept l (l.desc + 16 * i) (λ x low high. inl (record { low = omega (arith, low); high = omega (arith, high, below) })) (was.table i below);
     }

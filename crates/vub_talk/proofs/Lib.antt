@@ -6,3 +6,4 @@ pub mod Collected
 pub mod Valid
 pub mod Guarding
 pub mod Keeping
+pub mod Stored
