@@ -7,3 +7,5 @@ pub mod Valid
 pub mod Guarding
 pub mod Keeping
 pub mod Stored
+pub mod Chained
+pub mod Working
