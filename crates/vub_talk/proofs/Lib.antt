@@ -9,3 +9,4 @@ pub mod Keeping
 pub mod Stored
 pub mod Chained
 pub mod Working
+pub mod Standing
