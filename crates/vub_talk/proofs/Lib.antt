@@ -10,3 +10,4 @@ pub mod Stored
 pub mod Chained
 pub mod Working
 pub mod Standing
+pub mod Resting
