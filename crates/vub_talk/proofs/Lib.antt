@@ -11,3 +11,5 @@ pub mod Chained
 pub mod Working
 pub mod Standing
 pub mod Resting
+pub mod Acting
+pub mod Opened

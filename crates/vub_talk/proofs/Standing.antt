@@ -94,7 +94,7 @@ pub record Falls {V : Type 0} (l : Layout) (total : ℕ) (z : World V) : Type 0 
 
 -- The measure of one worker
 
-measure-one : {V : Type 0} (w : World V) → length w.wiring.opened ≡ 1 → measure w ≡ work_left w.wiring w.shared 0 (phase_at w.phases 0)
+pub measure-one : {V : Type 0} (w : World V) → length w.wiring.opened ≡ 1 → measure w ≡ work_left w.wiring w.shared 0 (phase_at w.phases 0)
 measure-one w one =
     let f : ℕ → ℕ = λ k. work_left w.wiring w.shared k (phase_at w.phases k) in
     ap (λ n. sum_by f (range_with_len 0 n)) one ∙ omega (arith, sum_by-cons f 0 [])
@@ -109,10 +109,10 @@ work-rises g h z a b one events pending entries phase =
 -- Entries left
 
 -- by the index word
-entries-word : (g : memory.Guest) (r : Vring) (a : Addresses) → r.queue.addresses ≡ Some a → entries_left g r ≡ cond (covers g.regions (a.avail + 2) 2) (minus (number_at w16 g (a.avail + 2)) r.queue.next_avail) 0
+pub entries-word : (g : memory.Guest) (r : Vring) (a : Addresses) → r.queue.addresses ≡ Some a → entries_left g r ≡ cond (covers g.regions (a.avail + 2) 2) (minus (number_at w16 g (a.avail + 2)) r.queue.next_avail) 0
 entries-word g r a is = ap (λ (x : Option Addresses). cond (is_some x) (cond (covers g.regions ((unwrap_or x (record { desc = 0; avail = 0; used = 0 })).avail + 2) 2) (minus (number_at w16 g ((unwrap_or x (record { desc = 0; avail = 0; used = 0 })).avail + 2)) r.queue.next_avail) 0) 0) is
 
-entries-none : (g : memory.Guest) (r : Vring) → has_addresses r ≡ false → entries_left g r ≡ 0
+pub entries-none : (g : memory.Guest) (r : Vring) → has_addresses r ≡ false → entries_left g r ≡ 0
 entries-none g r none = rw none refl
 
 one-more : (n x : ℕ) → minus (index_of (n + 1)) x ≤ minus (index_of n) x + 1
