@@ -105,6 +105,9 @@ at-range f d (suc n) a (suc q) =
     let up : a + 1 + q ≡ a + suc q = omega arith in
     elim (at-range f d n (a + 1) q) [ inl found ↦ inl (found ∙ ap f up) | inr past ↦ inr past ]
 
+from-zero : {X : Type 0} (f : ℕ → X) (d : X) (n q : ℕ) → (get_or (map f (range_with_len 0 n)) q d ≡ f q) ⊎ (get_or (map f (range_with_len 0 n)) q d ≡ d)
+from-zero f d n q = (let none : 0 + q ≡ q = omega arith in elim (at-range f d n 0 q) [ inl found ↦ inl (found ∙ ap f none) | inr past ↦ inr past ])
+
 abbrev objects_of : List ℕ → List Object
 objects_of content = object.Content content ∷ object.Event 0 ∷ object.Event 0 ∷ []
 
@@ -155,11 +158,11 @@ module _ {V : Type 0} (l : Layout) (at : Sits l) (n : ℕ) (content : List ℕ) 
   abbrev held : Option Place → Shared V
   held found = placed g known 1 found
 
+  abbrev ring : ℕ → Vring
+  ring q = ring_from c.max (find (λ (r : GivenRing). eqb r.queue q) (ring_of l n ∷ []))
+
   rings-before : RingsFit l before
   rings-before = by c.queues some where
-    abbrev ring : ℕ → Vring
-    ring q = ring_from c.max (find (λ (r : GivenRing). eqb r.queue q) (ring_of l n ∷ []))
-
     first : (queues : ℕ) → 0 < queues → get_or (map (λ q. ring q) (range_with_len 0 queues)) 0 closed_ring ≡ ring 0
     first zero above = absurd (omega (arith, above))
     first (suc queues) above = refl
@@ -168,11 +171,11 @@ module _ {V : Type 0} (l : Layout) (at : Sits l) (n : ℕ) (content : List ℕ) 
     by queues above = record {
       addresses = ap (λ (r : Vring). r.queue.addresses) (first queues above);
       size = ap (λ (r : Vring). r.queue.size) (first queues above);
-      others = λ q other. elim (at-range (λ q. ring q) closed_ring queues 0 q) [
+      others = λ q other. elim (from-zero (λ q. ring q) closed_ring queues q) [
         | inl found ↦ ap (λ (r : Vring). has_addresses r) found ∙ given-other c.max l n q other
         | inr past ↦ ap (λ (r : Vring). has_addresses r) past
       ];
-      plain = λ q. elim (at-range (λ q. ring q) closed_ring queues 0 q) [
+      plain = λ q. elim (from-zero (λ q. ring q) closed_ring queues q) [
         | inl found ↦ ap (λ (r : Vring). r.queue.event_idx) found ∙ given-plain c.max l n q
         | inr past ↦ ap (λ (r : Vring). r.queue.event_idx) past
       ];
@@ -243,3 +246,21 @@ module _ {V : Type 0} (l : Layout) (at : Sits l) (n : ℕ) (content : List ℕ) 
 
   work-held : IsReady l n before.guest → (found : Option Place) → work_left g (held found) 0 Idle ≤ 8
   work-held ready found = omega (arith, events-held found, pending-held found, entries-held ready found)
+
+  -- the world in which the batch begins
+  pub opening-stands : (asks : List Ask) → AreSmall l asks → IsReady l n before.guest → Stands l n (13 * length asks + 7) (opening k (batch_setup l n content (asks_stored l n asks ++ Signal 1 ∷ [])) v)
+  unfolding opening batch_setup
+  opening-stands asks small ready =
+      let R : memory.Guest → Type 0 = λ x. IsReady l n x in
+      record {
+        one = refl;
+        ready = subst R (sym (same-guest (place_of g 0))) ready;
+        rings = rings-held (place_of g 0);
+        held = tt;
+        acts = batch-acts l at n asks small;
+        idle = refl;
+      }
+
+  pub opening-measure : (asks : List Ask) → IsReady l n before.guest → measure (opening k (batch_setup l n content (asks_stored l n asks ++ Signal 1 ∷ [])) v) ≤ 8
+  unfolding opening batch_setup
+  opening-measure asks ready = omega (arith, measure-one (opening k (batch_setup l n content (asks_stored l n asks ++ Signal 1 ∷ [])) v) refl, work-held ready (place_of g 0))
