@@ -13,3 +13,4 @@ pub mod Standing
 pub mod Resting
 pub mod Acting
 pub mod Opened
+pub mod Rested

@@ -1,3 +1,4 @@
+pub mod Ample
 pub mod Asking
 pub mod Batches
 pub mod Faults

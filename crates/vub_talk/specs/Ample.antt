@@ -1,0 +1,43 @@
+-- Rounds that are enough for a batch.
+use Rattle.std.specs.Prelude.{◌≡◌, ℕ, ◌+◌, ◌*◌, ◌^◌, ◌<◌, ◌≤◌, true, List, [], ◌∷◌, ◌++◌, length, None}
+use Rattle.vub_mem.specs.Memory.{Guest}
+use Rattle.vub_mem.specs.Place.{content_of}
+use Rattle.vub_driver.specs.Layouts.{new_fault}
+use Rattle.vub_driver.specs.declared.layout.Layout.{Layout}
+use Rattle.vub_model.specs.declared.constants.Constants.{Constants}
+use Rattle.vub_model.specs.declared.setup.Guest.TheVariants.{Signal}
+use Rattle.vub_model.specs.declared.setup.Setup.{Setup}
+use Rattle.vub_talk.specs.Asking.{AreSmall}
+use Rattle.vub_talk.specs.Batches.{asks_stored, batch_setup, schedule_of}
+use Rattle.vub_talk.specs.Faults.{lies_within}
+use Rattle.vub_talk.specs.Ready.{IsReady}
+use Rattle.vub_talk.specs.declared.ask.Ask.{Ask}
+use Rattle.vub_talk.specs.declared.fault.TalkFault.{TalkFault}
+use Rattle.vub_talk.specs.declared.fault.TalkFault.TheVariants as fault
+
+-- The set-up is that of a batch of these asks over guest memory that is ready, with a layout that is taken and lies in
+-- it. The device has one worker, so that three parties have a turn in each round: the guest, control and the worker. For
+-- each ask there are thirteen rounds, and 26 besides.
+pub record IsAmple (k : Constants) (setup : Setup) (schedule : List ℕ) : Type 0 where
+  pub layout : Layout
+  pub number : ℕ
+  pub guest : Guest
+  pub asks : List Ask
+  pub rounds : ℕ
+  pub setup_is :
+      setup
+      ≡ batch_setup layout number (content_of guest.contents 0) (asks_stored layout number asks ++ Signal 1 ∷ [])
+  pub schedule_is : schedule ≡ schedule_of rounds 3
+  pub one : length k.masks ≡ 1
+  pub queues : 0 < k.queues
+  pub taken : new_fault layout ≡ None
+  pub lies : lies_within layout ≡ true
+  pub small : AreSmall layout asks
+  pub ready : IsReady layout number guest
+  pub enough : 13 * length asks + 26 ≤ rounds
+  pub few : rounds < 2 ^ 32
+
+-- a party still had a step
+abbrev pub IsRestless : TalkFault → Type 0
+IsRestless (fault.NotAtRest batch) = Unit {0}
+IsRestless e = ⊥
