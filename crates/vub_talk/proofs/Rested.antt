@@ -52,8 +52,8 @@ module _ {V : Type 0} (m : Meaning V) (l : Layout) (at : Sits l) (n : ℕ) (g : 
   rests-by (mask ∷ other ∷ masks) single plays z valid run = absurd (omega (arith, single))
 
 -- where the rounds are ample the run ends at rest
-pub ample-rests : {V D : Type 0} (m : Meaning V) (t : Telling D) (k : Constants) (setup : Setup) (schedule : List ℕ) (v end : V) (before now : DeviceState D) (run : Run) → IsPlayed m t k setup schedule v end before now run → IsAmple k setup schedule → run.rest ≡ true
-ample-rests {V} m t k setup schedule v end before now run played ample =
+pub ample_rests : {V D : Type 0} (m : Meaning V) (t : Telling D) (k : Constants) (setup : Setup) (schedule : List ℕ) (v end : V) (before now : DeviceState D) (run : Run) → IsPlayed m t k setup schedule v end before now run → IsAmple k setup schedule → run.rest ≡ true
+ample_rests {V} m t k setup schedule v end before now run played ample =
     let S : Setup → Type 0 = λ s. IsValid k s in
     let valid = subst S ample.setup_is played.valid in
     let R : Setup → Type 0 = λ s. IsRun m schedule played.plays (opening k s v) played.closing in

@@ -2,6 +2,7 @@
 ghost use Rattle.std.specs.Prelude.{◌≡◌, ◌+◌, ◌++◌, ◌∷◌, [], length, None, IfOk, IfErr, OnOk};
 ghost use Rattle.vub_mem.specs.Place.{content_of};
 ghost use Rattle.vub_model.specs.ValidSetup.{fault_of};
+ghost use Rattle.vub_talk.specs.Ample.{IsAmple, IsRestless};
 ghost use Rattle.vub_talk.specs.Asking.{AreSmall, HasMoved, MaySubmit, NumbersOn};
 ghost use Rattle.vub_talk.specs.Late.{IsLate};
 ghost use Rattle.vub_talk.specs.Machine.{constants_in, fixed, setup_for};
@@ -39,7 +40,8 @@ fn device_of(alloc: Global, constants: &Constants) -> Result<FixedDevice, OutOfM
 /// Plays the set-up of a batch to its rest.
 ///
 /// # Errors
-/// `NotAtRest`, and want of memory.
+/// `NotAtRest`, but not where there are enough rounds; and want of memory.
+#[tactic(auto, using(crate::proofs::Rested::ample_rests))]
 fn play<V: Service>(
     alloc: Global,
     setup: &Setup,
@@ -50,6 +52,8 @@ fn play<V: Service>(
 ) -> Result<Run, TalkFault>
     requires { fault_of (constants_in device.old) setup.now ≡ None }
     ensures only { IfErr result IsLate }
+    ensures ample { IfErr result (λ e.
+        IsAmple (constants_in device.old) setup.now schedule.now → IsRestless e → ⊥) }
 {
     match drive(alloc, setup, device, service, schedule) {
         Ok(run) => {
