@@ -16,11 +16,11 @@ use Rattle.vub_talk.proofs.Accepting.{request_fits}
 use Rattle.vub_talk.proofs.Guarding.{Sits, InTable, InIndex}
 use Rattle.vub_talk.proofs.Standing.{Acts, IsOther, IsChainStore, IsIndexStore}
 
-record RoomFits (l : Layout) (room : ℕ) : Type 0 where
-  short : room ≤ l.slot
-  few : room < 2 ^ 32
+pub record RoomFits (l : Layout) (room : ℕ) : Type 0 where
+  pub short : room ≤ l.slot
+  pub few : room < 2 ^ 32
 
-room_fits : (l : Layout) (len room : ℕ) → is_too_large l len room ≡ false → RoomFits l room
+pub room_fits : (l : Layout) (len room : ℕ) → is_too_large l len room ≡ false → RoomFits l room
 room_fits l len room small =
     let both = or_parts (ltb l.slot len || ltb l.slot room) (ltb (2 ^ 32 - 1) (len + room)) small in
     let slots = or_parts (ltb l.slot len) (ltb l.slot room) both.0 in
@@ -28,36 +28,31 @@ room_fits l len room small =
 
 module _ (l : Layout) (at : Sits l) where
   -- the request lies in the buffers
-  request-other : (n : ℕ) (request : List ℕ) → length request ≤ l.slot → IsOther l (request_at l n - 1048576) request
-  request-other n request short =
+  pub request-off : (n len : ℕ) → len ≤ l.slot → (x : ℕ) → request_at l n ≤ x → x < request_at l n + len → (InTable l x ⊎ InIndex l x) → ⊥
+  request-off n len short x from to guarded =
       let pair = pair_fits (place_of l n) (half_of l) l.slot l.size (place_below l n at.fit) at.fit.even in
-      let B : ℕ → Type 0 = λ x. (l.buffers ≤ x) × (x < l.buffers + l.slot * l.size) in
-      let inside : (x : ℕ) → request_at l n ≤ x → x < request_at l n + length request → B x = λ x from to. (omega (arith, from), omega (arith, to, short, pair)) in
-      record {
-        at = request_at l n;
-        is = refl;
-        low = omega (arith, at.within.buffers.0);
-        off = λ x from to guarded. let b = inside x from to in
-            elim guarded [
-              | inl table ↦ at.desc_buffers x table.low table.high b.0 b.1
-              | inr index ↦ at.avail_buffers x (omega (arith, index.low)) (omega (arith, index.high)) b.0 b.1
-            ];
-      }
+      let low : l.buffers ≤ x = omega (arith, from) in
+      let high : x < l.buffers + l.slot * l.size = omega (arith, to, short, pair) in
+      elim guarded [
+        | inl table ↦ at.desc_buffers x table.low table.high low high
+        | inr index ↦ at.avail_buffers x (omega (arith, index.low)) (omega (arith, index.high)) low high
+      ]
 
   -- the slot lies behind the index
-  slot-other : (n : ℕ) → IsOther l (avail_slot_at l n - 1048576) (to_le_bytes w16 (head_of l n))
-  slot-other n =
+  pub slot-off : (n x : ℕ) → avail_slot_at l n ≤ x → x < avail_slot_at l n + 2 → (InTable l x ⊎ InIndex l x) → ⊥
+  slot-off n x from to guarded =
       let some : 0 < l.size = omega (arith, at.fit.some, at.fit.even) in
       let below : n % l.size < l.size = omega (arith, some) in
-      record {
-        at = avail_slot_at l n;
-        is = refl;
-        low = omega (arith, at.within.avail.0);
-        off = λ x from to guarded. elim guarded [
-          | inl table ↦ at.desc_avail x table.low table.high (omega (arith, from)) (omega (arith, to, below))
-          | inr index ↦ omega (arith, from, index.high)
-        ];
-      }
+      elim guarded [
+        | inl table ↦ at.desc_avail x table.low table.high (omega (arith, from)) (omega (arith, to, below))
+        | inr index ↦ omega (arith, from, index.high)
+      ]
+
+  request-other : (n : ℕ) (request : List ℕ) → length request ≤ l.slot → IsOther l (request_at l n - 1048576) request
+  request-other n request short = record { at = request_at l n; is = refl; low = omega (arith, at.within.buffers.0); off = request-off n (length request) short }
+
+  slot-other : (n : ℕ) → IsOther l (avail_slot_at l n - 1048576) (to_le_bytes w16 (head_of l n))
+  slot-other n = record { at = avail_slot_at l n; is = refl; low = omega (arith, at.within.avail.0); off = slot-off n }
 
   chain-store : (n len room : ℕ) → RoomFits l room → IsChainStore l (descriptors_at l n - 1048576) (chain_bytes l n len room)
   chain-store n len room fits = record { number = n; size = len; room = room; is = refl; bytes = refl; short = fits.short; few = fits.few }

@@ -149,6 +149,30 @@ spot-back (suc n) a o i is =
           (more.0, record { low = omega (arith, more.1.low); high = omega (arith, more.1.high) }))
     ]
 
+-- and where an address of the range lies is a spot of it
+
+spot-left : (xs ys : List Spot) (o i : ℕ) → IsSpot xs o i → IsSpot (xs ++ ys) o i
+spot-left [] ys o i is = absurd is
+spot-left (x ∷ xs) ys o i (inl first) = inl first
+spot-left (x ∷ xs) ys o i (inr rest) = inr (spot-left xs ys o i rest)
+
+spot-right : (xs ys : List Spot) (o i : ℕ) → IsSpot ys o i → IsSpot (xs ++ ys) o i
+spot-right [] ys o i is = is
+spot-right (x ∷ xs) ys o i is = inr (spot-right xs ys o i is)
+
+spot-in : (found : Option Region) (a o i : ℕ) → LiesIn found a o i → IsSpot (spot_in found a) o i
+spot-in None a o i lies = absurd lies
+spot-in (Some r) a o i lies = inl (lies.0, lies.1)
+
+pub spot-here : (n a k o i : ℕ) → k < n → LiesAt one (a + k) o i → IsSpot (spots_of one a n) o i
+spot-here zero a k o i below lies = absurd (omega (arith, below))
+spot-here (suc n) a zero o i below lies =
+    let same : a + zero ≡ a = omega arith in
+    spot-left (spot_in (region_of one a) a) (spots_of one (a + 1) n) o i (spot-in (region_of one a) a o i (subst (λ x. LiesAt one x o i) same lies))
+spot-here (suc n) a (suc k) o i below lies =
+    let same : a + suc k ≡ a + 1 + k = omega arith in
+    spot-right (spot_in (region_of one a) a) (spots_of one (a + 1) n) o i (spot-here n (a + 1) k o i (omega (arith, below)) (subst (λ x. LiesAt one x o i) same lies))
+
 -- the segments lie in the buffers
 abbrev pub AreInBuffers : Layout → List Segment → Type 0
 AreInBuffers l ss = AllByRecursion (λ (s : Segment). InBuffers l s.addr s.len) ss

@@ -14,3 +14,4 @@ pub mod Resting
 pub mod Acting
 pub mod Opened
 pub mod Rested
+pub mod Submitted

@@ -132,76 +132,56 @@ two_at g l n size most low few is = record {
 unwritable : (d : Descriptor) → d.flags ≡ 1 → is_writable d ≡ false
 unwritable d is = ap (λ f. not (eqb (bit_and f 2) 0)) is
 
--- Stores of the guest, of a world whose memory is ready
+-- Changes of a memory that is ready
 
-module _ {V : Type 0} (w : World V) (l : Layout) (at : Sits l) (n : ℕ) (was : IsReady l n w.shared.guest) where
-  abbrev g : memory.Guest
-  g = w.shared.guest
-
-  store-only : (i : ℕ) (bs : List ℕ) → ChangesOnly (store_spots 0 i (length bs)) g (stored g 0 i bs)
-  store-only i bs = guest-changes w (Store 0 i bs ∷ [])
-
-  beside : (a : ℕ) (bs : List ℕ) → 1048576 ≤ a → Keeps (Beside a (length bs)) g (stored g 0 (a - 1048576) bs)
-  beside a bs low =
-      keeps (Beside a (length bs)) g (stored g 0 (a - 1048576) bs) (store_spots 0 (a - 1048576) (length bs)) was.one
-      (λ o i is has.
-      let range = spot-stored 0 (length bs) (a - 1048576) o i is in
-      elim has.1 [
-        | inl less ↦ omega (arith, range.1.low, less, low)
-        | inr more ↦ omega (arith, range.1.high, more, low)
-      ])
-      (store-only (a - 1048576) bs)
-
-  -- a store of no guarded byte
-  pub other-ready : (a : ℕ) (bs : List ℕ) → 1048576 ≤ a → ((x : ℕ) → a ≤ x → x < a + length bs → (InTable l x ⊎ InIndex l x) → ⊥) → IsReady l n (stored g 0 (a - 1048576) bs)
-  other-ready a bs low off =
-      ready-kept l n g (stored g 0 (a - 1048576) bs) (store_spots 0 (a - 1048576) (length bs))
-      (λ o i is guarded. let range = spot-stored 0 (length bs) (a - 1048576) o i is in off (i + 1048576) (omega (arith, range.1.low)) (omega (arith, range.1.high, low)) guarded.1)
-      (store-only (a - 1048576) bs) was
-
-  -- the store of the next available index
-  pub index-ready : (m : ℕ) → IsReady l m (stored g 0 (avail_index_at l - 1048576) (to_le_bytes w16 (index_of m)))
-  index-ready m =
-      let bs = to_le_bytes w16 (index_of m) in
-      let low : 1048576 ≤ avail_index_at l = omega (arith, at.within.avail.0) in
-      let kept = beside (avail_index_at l) bs low in
-      let only = store-only (avail_index_at l - 1048576) bs in
+module _ (l : Layout) (at : Sits l) (n : ℕ) (g h : memory.Guest) (was : IsReady l n g) (long : length (content_of h.contents 0) ≡ length (content_of g.contents 0)) where
+  -- of no guarded byte
+  pub other-kept : (a len : ℕ) → Keeps (Beside a len) g h → ((x : ℕ) → a ≤ x → x < a + len → (InTable l x ⊎ InIndex l x) → ⊥) → IsReady l n h
+  other-kept a len kept off =
+      let beside : (x : ℕ) → InTable l x ⊎ InIndex l x → Beside a len x = λ x guarded.
+          elim (cases_lt x a) [
+            | inl less ↦ inl less
+            | inr high ↦ elim (cases_lt x (a + len)) [
+              | inl inside ↦ absurd (off x (omega (arith, high)) inside guarded)
+              | inr past ↦ inr (omega (arith, past))
+            ]
+          ] in
       record {
         one = kept.flat;
-        long = only.lengths 0 ∙ was.long;
-        index = word_is (stored g 0 (avail_index_at l - 1048576) bs) (avail_index_at l) (index_of m) (index_small m) (read-stored g (avail_index_at l) bs was.one was.long low (omega (arith, at.within.avail.1)));
-        table = λ i below. kept-harmless (Beside (avail_index_at l) 2) g (stored g 0 (avail_index_at l - 1048576) bs) kept l (l.desc + 16 * i)
-            (λ x from to. elim (cases_lt x (avail_index_at l)) [
-              | inl less ↦ inl less
-              | inr high ↦ elim (cases_lt x (l.avail + 4)) [
-                | inl inside ↦ absurd (at.desc_avail x (omega (arith, from)) (omega (arith, to, below)) (omega (arith, high)) (omega (arith, inside)))
-                | inr past ↦ inr (omega (arith, past))
-              ]
-            ])
-            (was.table i below);
+        long = long ∙ was.long;
+        index = kept-number (Beside a len) g h kept w16 (avail_index_at l) (λ x low high. beside x (inr (record { low = low; high = omega (arith, high) }))) ∙ was.index;
+        table = λ i below. kept-harmless (Beside a len) g h kept l (l.desc + 16 * i) (λ x low high. beside x (inl (record { low = omega (arith, low); high = omega (arith, high, below) }))) (was.table i below);
       }
 
-  -- a store of the two descriptors of a request: the second is for its room, which lies in the buffers
-  pub chain-ready : (m size room : ℕ) → room ≤ l.slot → room < 2 ^ 32 → IsReady l n (stored g 0 (descriptors_at l m - 1048576) (chain_bytes l m size room))
-  chain-ready m size room short few =
-      let bs = chain_bytes l m size room in
-      let long : length (chain_bytes l m size room) ≡ 32 = length-chain_bytes l m size room in
+  -- of the available index
+  pub index-kept : (m : ℕ) → Keeps (Beside (avail_index_at l) 2) g h → bytes_at h (avail_index_at l) 2 ≡ to_le_bytes w16 (index_of m) → IsReady l m h
+  index-kept m kept back = record {
+    one = kept.flat;
+    long = long ∙ was.long;
+    index = word_is h (avail_index_at l) (index_of m) (index_small m) back;
+    table = λ i below. kept-harmless (Beside (avail_index_at l) 2) g h kept l (l.desc + 16 * i)
+        (λ x from to. elim (cases_lt x (avail_index_at l)) [
+          | inl less ↦ inl less
+          | inr high ↦ elim (cases_lt x (l.avail + 4)) [
+            | inl inside ↦ absurd (at.desc_avail x (omega (arith, from)) (omega (arith, to, below)) (omega (arith, high)) (omega (arith, inside)))
+            | inr past ↦ inr (omega (arith, past))
+          ]
+        ])
+        (was.table i below);
+  }
+
+  -- of the two descriptors of a request: the second is for its room, which lies in the buffers
+  pub chain-kept : (m size room : ℕ) → room ≤ l.slot → room < 2 ^ 32 → Keeps (Beside (descriptors_at l m) 32) g h → bytes_at h (descriptors_at l m) 32 ≡ chain_bytes l m size room → IsReady l n h
+  chain-kept m size room short few kept back =
       let place : place_of l m < half_of l = place_below l m at.fit in
       let even : l.size ≡ 2 * half_of l = at.fit.even in
-      let low : 1048576 ≤ descriptors_at l m = omega (arith, at.within.desc.0) in
       let high : descriptors_at l m + 32 ≤ l.desc + 16 * l.size = omega (arith, place, even) in
       let pair = pair_fits (place_of l m) (half_of l) l.slot l.size place even in
-      let h = stored g 0 (descriptors_at l m - 1048576) (chain_bytes l m size room) in
-      let B : ℕ → Type 0 = λ k. Keeps (Beside (descriptors_at l m) k) g (stored g 0 (descriptors_at l m - 1048576) (chain_bytes l m size room)) in
-      let kept : Keeps (Beside (descriptors_at l m) 32) g (stored g 0 (descriptors_at l m - 1048576) (chain_bytes l m size room)) = subst B long (beside (descriptors_at l m) bs low) in
-      let only = store-only (descriptors_at l m - 1048576) bs in
-      let back : bytes_at h (descriptors_at l m) 32 ≡ chain_bytes l m size room =
-      ap (bytes_at h (descriptors_at l m)) (sym long) ∙ read-stored g (descriptors_at l m) bs was.one was.long low (omega (arith, long, high, at.within.desc.1)) in
       let two = two_at h l m size room (omega (arith, pair, at.within.buffers.1)) few back in
       let D : ℕ → Type 0 = λ x. IsHarmless l (descriptor_at h x) in
       record {
         one = kept.flat;
-        long = only.lengths 0 ∙ was.long;
+        long = long ∙ was.long;
         index = kept-number (Beside (descriptors_at l m) 32) g h kept w16 (avail_index_at l)
             (λ x from to. elim (cases_lt x (descriptors_at l m)) [
               | inl less ↦ inl less
@@ -224,3 +204,52 @@ module _ {V : Type 0} (w : World V) (l : Layout) (at : Sits l) (n : ℕ) (was : 
           ]
         ];
       }
+
+-- Stores of the guest, of a world whose memory is ready
+
+module _ {V : Type 0} (w : World V) (l : Layout) (at : Sits l) (n : ℕ) (was : IsReady l n w.shared.guest) where
+  abbrev g : memory.Guest
+  g = w.shared.guest
+
+  store-only : (i : ℕ) (bs : List ℕ) → ChangesOnly (store_spots 0 i (length bs)) g (stored g 0 i bs)
+  store-only i bs = guest-changes w (Store 0 i bs ∷ [])
+
+  beside : (a : ℕ) (bs : List ℕ) → 1048576 ≤ a → Keeps (Beside a (length bs)) g (stored g 0 (a - 1048576) bs)
+  beside a bs low =
+      keeps (Beside a (length bs)) g (stored g 0 (a - 1048576) bs) (store_spots 0 (a - 1048576) (length bs)) was.one
+      (λ o i is has.
+      let range = spot-stored 0 (length bs) (a - 1048576) o i is in
+      elim has.1 [
+        | inl less ↦ omega (arith, range.1.low, less, low)
+        | inr more ↦ omega (arith, range.1.high, more, low)
+      ])
+      (store-only (a - 1048576) bs)
+
+  long-stored : (i : ℕ) (bs : List ℕ) → length (content_of (stored g 0 i bs).contents 0) ≡ length (content_of g.contents 0)
+  long-stored i bs = (store-only i bs).lengths 0
+
+  -- a store of no guarded byte
+  pub other-ready : (a : ℕ) (bs : List ℕ) → 1048576 ≤ a → ((x : ℕ) → a ≤ x → x < a + length bs → (InTable l x ⊎ InIndex l x) → ⊥) → IsReady l n (stored g 0 (a - 1048576) bs)
+  other-ready a bs low off = other-kept l at n g (stored g 0 (a - 1048576) bs) was (long-stored (a - 1048576) bs) a (length bs) (beside a bs low) off
+
+  -- the store of the next available index
+  pub index-ready : (m : ℕ) → IsReady l m (stored g 0 (avail_index_at l - 1048576) (to_le_bytes w16 (index_of m)))
+  index-ready m =
+      let bs = to_le_bytes w16 (index_of m) in
+      let low : 1048576 ≤ avail_index_at l = omega (arith, at.within.avail.0) in
+      index-kept l at n g (stored g 0 (avail_index_at l - 1048576) bs) was (long-stored (avail_index_at l - 1048576) bs) m (beside (avail_index_at l) bs low)
+      (read-stored g (avail_index_at l) bs was.one was.long low (omega (arith, at.within.avail.1)))
+
+  -- a store of the two descriptors of a request
+  pub chain-ready : (m size room : ℕ) → room ≤ l.slot → room < 2 ^ 32 → IsReady l n (stored g 0 (descriptors_at l m - 1048576) (chain_bytes l m size room))
+  chain-ready m size room short few =
+      let bs = chain_bytes l m size room in
+      let long : length (chain_bytes l m size room) ≡ 32 = length-chain_bytes l m size room in
+      let place : place_of l m < half_of l = place_below l m at.fit in
+      let low : 1048576 ≤ descriptors_at l m = omega (arith, at.within.desc.0) in
+      let high : descriptors_at l m + 32 ≤ 2097152 = omega (arith, place, at.fit.even, at.within.desc.1) in
+      let h = stored g 0 (descriptors_at l m - 1048576) (chain_bytes l m size room) in
+      let B : ℕ → Type 0 = λ k. Keeps (Beside (descriptors_at l m) k) g (stored g 0 (descriptors_at l m - 1048576) (chain_bytes l m size room)) in
+      let back : bytes_at h (descriptors_at l m) 32 ≡ chain_bytes l m size room =
+      ap (bytes_at h (descriptors_at l m)) (sym long) ∙ read-stored g (descriptors_at l m) bs was.one was.long low (omega (arith, long, high)) in
+      chain-kept l at n g h was (long-stored (descriptors_at l m - 1048576) bs) m size room short few (subst B long (beside (descriptors_at l m) bs low)) back
