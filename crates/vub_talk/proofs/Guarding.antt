@@ -18,8 +18,7 @@ use Rattle.vub_driver.specs.declared.layout.Layout.{Layout}
 use Rattle.vub_model.specs.Headline.{IsSpot}
 use Rattle.vub_model.specs.Written.{Spot, spot_in, spots_of, reply_spots, put_spots}
 use Rattle.vub_talk.specs.Asking.{region}
-use Rattle.vub_talk.specs.Faults.{lies_within}
-use Rattle.vub_talk.specs.Ready.{InBuffers}
+use Rattle.vub_talk.specs.Ready.{InBuffers, IsLaid}
 use Rattle.vub_talk.proofs.Refusing.{fit_taken}
 use Rattle.vub_talk.proofs.Valid.{Within, within}
 
@@ -84,8 +83,8 @@ sits_by l fit lies off =
       avail_buffers = never l.avail (6 + 2 * l.size) l.buffers (l.slot * l.size) avail2.0;
     }
 
-pub sits : (l : Layout) → new_fault l ≡ None → lies_within l ≡ true → Sits l
-sits l taken lies = sits_by l (fit_taken l taken) (within l lies) (disjoint_taken l taken)
+pub sits : (l : Layout) → IsLaid l → Sits l
+sits l laid = sits_by l (fit_taken l laid.taken) (within l laid.lies) (disjoint_taken l laid.taken)
 
 -- Guarded bytes
 

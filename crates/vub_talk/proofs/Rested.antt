@@ -59,5 +59,5 @@ ample_rests {V} m t k setup schedule v end before now run played ample =
     let R : Setup → Type 0 = λ s. IsRun m schedule played.plays (opening k s v) played.closing in
     let T : List ℕ → Type 0 = λ turns. IsRun m turns played.plays (opening k (batch_setup ample.layout ample.number (content_of ample.guest.contents 0) (asks_stored ample.layout ample.number ample.asks ++ Signal 1 ∷ [])) v) played.closing in
     let is_run = subst T ample.schedule_is (subst R ample.setup_is played.is_run) in
-    let rest = rests-by m ample.layout (sits ample.layout ample.taken ample.lies) ample.number ample.guest ample.ready ample.asks ample.small v k ample.queues ample.rounds ample.enough ample.few k.masks ample.one played.plays played.closing valid is_run in
+    let rest = rests-by m ample.layout (sits ample.layout ample.laid) ample.number ample.guest ample.ready ample.asks ample.small v k ample.queues ample.rounds ample.enough ample.few k.masks ample.one played.plays played.closing valid is_run in
     played.shows.rests.1 rest

@@ -1,5 +1,5 @@
 -- A submit leaves memory ready for one request more.
-use Rattle.std.proofs.Common.{◌≡◌, ◌⊎◌, ℕ, ◌+◌, ◌-◌, ◌*◌, ◌%◌, ◌^◌, ◌<◌, ◌≤◌, inl, inr, List, [], ◌∷◌, length, sym, ap, subst, ◌∙◌, arith}
+use Rattle.std.proofs.Common.{◌≡◌, ◌⊎◌, ℕ, ◌+◌, ◌-◌, ◌*◌, ◌%◌, ◌^◌, ◌<◌, ◌≤◌, inl, inr, false, List, [], ◌∷◌, length, sym, ap, subst, ◌∙◌, arith}
 use Rattle.std.specs.Int.{w16, to_le_bytes}
 use Rattle.vub_mem.specs.Laws.{IsElsewhere}
 use Rattle.vub_mem.specs.Memory.{Guest}
@@ -13,10 +13,12 @@ use Rattle.vub_driver.proofs.Fitting.{place_below}
 use Rattle.vub_driver.proofs.Writes.{length-chain_bytes}
 use Rattle.vub_model.specs.Headline.{IsSpot, ChangesOnly}
 use Rattle.vub_model.specs.Written.{spots_of}
-use Rattle.vub_talk.specs.Asking.{region}
-use Rattle.vub_talk.specs.Ready.{IsReady}
-use Rattle.vub_talk.proofs.Acting.{RoomFits, request-off, slot-off}
-use Rattle.vub_talk.proofs.Guarding.{Sits, spot-back, spot-here}
+use Rattle.vub_talk.specs.Asking.{is_large, region}
+use Rattle.vub_talk.specs.declared.ask.Ask.{Ask}
+use Rattle.vub_talk.specs.Ready.{IsLaid, IsReady}
+use Rattle.vub_talk.proofs.Accepting.{request_fits}
+use Rattle.vub_talk.proofs.Acting.{RoomFits, room_fits, request-off, slot-off}
+use Rattle.vub_talk.proofs.Guarding.{Sits, sits, spot-back, spot-here}
 use Rattle.vub_talk.proofs.Keeping.{Keeps, keeps}
 use Rattle.vub_talk.proofs.Stored.{Beside, other-kept, index-kept, chain-kept}
 
@@ -78,3 +80,16 @@ submit-ready l at n g request room short fits was =
     let second = chain-written l at n (write_at g (request_at l n) request) first n (length request) room fits in
     let third = slot-written l at n (write_at (write_at g (request_at l n) request) (descriptors_at l n) (chain_bytes l n (length request) room)) second n in
     index-written l at n (write_at (write_at (write_at g (request_at l n) request) (descriptors_at l n) (chain_bytes l n (length request) room)) (avail_slot_at l n) (to_le_bytes w16 (head_of l n))) third (n + 1)
+
+-- memory that is ready for so many requests
+pub ready-at : (l : Layout) (n m : ℕ) (g : Guest) → n ≡ m → IsReady l n g → IsReady l m g
+ready-at l n m g same ready = let R : ℕ → Type 0 = λ x. IsReady l x g in subst R same ready
+
+-- the submit of one ask of a batch
+pub submitted-ready : (l : Layout) (n i : ℕ) (k : Layout) (number : ℕ) (g h : Guest) (a : Ask) → k ≡ l → number ≡ n + i → is_large l a ≡ false → IsLaid l → IsReady l (n + i) g → h ≡ submit_guest k g number a.request a.room → IsReady l (n + (i + 1)) h
+submitted-ready l n i k number g h a layout same small laid was is =
+    let R : Guest → Type 0 = λ x. IsReady l (n + i + 1) x in
+    let here : submit_guest l g (n + i) a.request a.room ≡ h = sym (is ∙ ap (λ x. submit_guest x g number a.request a.room) layout ∙ ap (λ x. submit_guest l g x a.request a.room) same) in
+    let next : n + i + 1 ≡ n + (i + 1) = omega arith in
+    ready-at l (n + i + 1) (n + (i + 1)) h next
+    (subst R here (submit-ready l (sits l laid) (n + i) g a.request a.room (request_fits l (length a.request) a.room small) (room_fits l (length a.request) a.room small) was))

@@ -1,16 +1,14 @@
 -- Rounds that are enough for a batch.
-use Rattle.std.specs.Prelude.{◌≡◌, ℕ, ◌+◌, ◌*◌, ◌^◌, ◌<◌, ◌≤◌, true, List, [], ◌∷◌, ◌++◌, length, None}
+use Rattle.std.specs.Prelude.{◌≡◌, ℕ, ◌+◌, ◌*◌, ◌^◌, ◌<◌, ◌≤◌, List, [], ◌∷◌, ◌++◌, length}
 use Rattle.vub_mem.specs.Memory.{Guest}
 use Rattle.vub_mem.specs.Place.{content_of}
-use Rattle.vub_driver.specs.Layouts.{new_fault}
 use Rattle.vub_driver.specs.declared.layout.Layout.{Layout}
 use Rattle.vub_model.specs.declared.constants.Constants.{Constants}
 use Rattle.vub_model.specs.declared.setup.Guest.TheVariants.{Signal}
 use Rattle.vub_model.specs.declared.setup.Setup.{Setup}
 use Rattle.vub_talk.specs.Asking.{AreSmall}
 use Rattle.vub_talk.specs.Batches.{asks_stored, batch_setup, schedule_of}
-use Rattle.vub_talk.specs.Faults.{lies_within}
-use Rattle.vub_talk.specs.Ready.{IsReady}
+use Rattle.vub_talk.specs.Ready.{IsLaid, IsReady}
 use Rattle.vub_talk.specs.declared.ask.Ask.{Ask}
 use Rattle.vub_talk.specs.declared.fault.TalkFault.{TalkFault}
 use Rattle.vub_talk.specs.declared.fault.TalkFault.TheVariants as fault
@@ -30,8 +28,7 @@ pub record IsAmple (k : Constants) (setup : Setup) (schedule : List ℕ) : Type 
   pub schedule_is : schedule ≡ schedule_of rounds 3
   pub one : length k.masks ≡ 1
   pub queues : 0 < k.queues
-  pub taken : new_fault layout ≡ None
-  pub lies : lies_within layout ≡ true
+  pub laid : IsLaid layout
   pub small : AreSmall layout asks
   pub ready : IsReady layout number guest
   pub enough : 13 * length asks + 26 ≤ rounds

@@ -1,14 +1,21 @@
 -- Guest memory as a batch finds it, so that the device serves what the driver put there and nothing else.
-use Rattle.std.specs.Prelude.{◌≡◌, ◌≤◌, ◌<◌, ℕ, ◌+◌, ◌*◌, true, [], ◌∷◌, List, length}
+use Rattle.std.specs.Prelude.{◌≡◌, ◌≤◌, ◌<◌, ℕ, ◌+◌, ◌*◌, true, [], ◌∷◌, List, length, None}
 use Rattle.std.specs.Int.{w16}
 use Rattle.vub_mem.specs.Memory.{Guest}
 use Rattle.vub_mem.specs.Place.{content_of, number_at}
 use Rattle.vub_queue.specs.Chain.{descriptor_at, is_writable}
 use Rattle.vub_queue.specs.declared.descriptor.Descriptor.{Descriptor}
 use Rattle.vub_driver.specs.Calls.{index_of}
+use Rattle.vub_driver.specs.Layouts.{new_fault}
 use Rattle.vub_driver.specs.Places.{avail_index_at}
 use Rattle.vub_driver.specs.declared.layout.Layout.{Layout}
 use Rattle.vub_talk.specs.Asking.{region}
+use Rattle.vub_talk.specs.Faults.{lies_within}
+
+-- a driver takes the layout, and it lies in guest memory
+pub record IsLaid (l : Layout) : Type 0 where
+  pub taken : new_fault l ≡ None
+  pub lies : lies_within l ≡ true
 
 -- these addresses lie in the buffers
 pub record InBuffers (l : Layout) (a n : ℕ) : Type 0 where

@@ -2,13 +2,14 @@
 ghost use Rattle.std.specs.Prelude.{◌≡◌, ◌⊎◌, ◌+◌, ◌-◌, ◌++◌, ◌∷◌, ◌<◌, ◌^◌, [], false, None, Some, length, option_map};
 ghost use Rattle.std.specs.Prelude.{IfOk, IfErr, IfSome, OnOk, OnErr};
 ghost use Rattle.vub_mem.specs.Place.{content_of};
-ghost use Rattle.vub_driver.specs.Calls.{new_state, state_submitted, submit_fault};
+ghost use Rattle.vub_driver.specs.Calls.{new_state, state_submitted, submit_fault, submit_guest};
 ghost use Rattle.vub_driver.specs.Layouts.{new_fault};
 ghost use Rattle.vub_driver.specs.Writings.{writes_of};
 ghost use Rattle.vub_model.specs.declared.setup.Guest.TheVariants.{Signal};
 ghost use Rattle.vub_talk.specs.Asking.{blank, zeros, AreSmall, HasMoved, MaySubmit, NumbersOn};
 ghost use Rattle.vub_talk.specs.Batches.{asks_stored, batch_setup, stores_of};
 ghost use Rattle.vub_talk.specs.Late.{refusal_of, IsLate};
+ghost use Rattle.vub_talk.specs.Ready.{IsLaid, IsReady};
 
 use crate::ask::Ask;
 use crate::constants::{MEMORY, MEMORY_LEN, MEMORY_START};
@@ -125,6 +126,8 @@ impl Conversation {
         ensures regions { OnOk result (self.new.memory.guest.regions ≡ self.old.memory.guest.regions) }
         ensures bytes { OnOk result (length (content_of self.new.memory.guest.contents 0)
             ≡ length (content_of self.old.memory.guest.contents 0)) }
+        ensures memory { OnOk result (self.new.memory.guest ≡ submit_guest self.old.driver.layout
+            self.old.memory.guest self.old.driver.submitted ask.now.request ask.now.room) }
         ensures only { IfErr result (λ e. e ≡ TalkFault.OutOfMemory) }
     {
         let request = ask.request.as_slice();
@@ -149,7 +152,11 @@ impl Conversation {
         requires layout { layout.now ≡ self.old.driver.layout }
         requires may { MaySubmit self.old.driver self.old.memory.guest.regions (length asks.now) }
         requires small { AreSmall layout.now asks.now }
+        requires laid { IsLaid layout.now }
+        requires ready { IsReady layout.now self.old.driver.submitted self.old.memory.guest }
         ensures driver { OnOk result (HasMoved (length asks.now) 0 self.old.driver self.new.driver) }
+        ensures ready { OnOk result (IsReady layout.now (self.old.driver.submitted + length asks.now)
+            self.new.memory.guest) }
         ensures regions { OnOk result (self.new.memory.guest.regions ≡ self.old.memory.guest.regions) }
         ensures bytes { OnOk result (length (content_of self.new.memory.guest.contents 0)
             ≡ length (content_of self.old.memory.guest.contents 0)) }

@@ -1,7 +1,8 @@
-use Rattle.std.proofs.Common.{◌≡◌, length, take}
+use Rattle.std.proofs.Common.{◌≡◌, ◌+◌, length, take}
 use Rattle.vub_mem.specs.Place.{content_of}
 use Rattle.vub_talk.specs.Asking.{HasMoved}
 use Rattle.vub_talk.specs.Batches.{asks_stored}
+use Rattle.vub_talk.specs.Ready.{IsReady}
 use Rattle.vub_talk.proofs.conversation.Conversation.submit_all.Given as goal
 
 abbrev pub invariant-loop-ask : goal.invariant-loop-ask
@@ -10,5 +11,6 @@ invariant-loop-ask l =
       driver : HasMoved l.ask-index 0 l.initial.self.driver l.self.driver;
       regions : l.self.memory.guest.regions ≡ l.initial.self.memory.guest.regions;
       bytes : length (content_of l.self.memory.guest.contents 0) ≡ length (content_of l.initial.self.memory.guest.contents 0);
+      ready : IsReady l.layout (l.initial.self.driver.submitted + l.ask-index) l.self.memory.guest;
       guest : l.guest ≡ asks_stored l.layout l.number (take l.ask-index l.asks);
     }
