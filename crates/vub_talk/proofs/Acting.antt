@@ -11,9 +11,10 @@ use Rattle.vub_model.specs.declared.setup.Guest.{Guest}
 use Rattle.vub_model.specs.declared.setup.Guest.TheVariants.{Signal}
 use Rattle.vub_talk.specs.Asking.{AreSmall, is_large}
 use Rattle.vub_talk.specs.Batches.{asks_stored}
+use Rattle.vub_talk.specs.Ready.{InTable, InIndex}
 use Rattle.vub_talk.specs.declared.ask.Ask.{Ask}
 use Rattle.vub_talk.proofs.Accepting.{request_fits}
-use Rattle.vub_talk.proofs.Guarding.{Sits, InTable, InIndex}
+use Rattle.vub_talk.proofs.Guarding.{Sits}
 use Rattle.vub_talk.proofs.Standing.{Acts, IsOther, IsChainStore, IsIndexStore}
 
 pub record RoomFits (l : Layout) (room : ℕ) : Type 0 where

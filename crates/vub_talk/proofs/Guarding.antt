@@ -18,7 +18,7 @@ use Rattle.vub_driver.specs.declared.layout.Layout.{Layout}
 use Rattle.vub_model.specs.Headline.{IsSpot}
 use Rattle.vub_model.specs.Written.{Spot, spot_in, spots_of, reply_spots, put_spots}
 use Rattle.vub_talk.specs.Asking.{region}
-use Rattle.vub_talk.specs.Ready.{InBuffers, IsLaid}
+use Rattle.vub_talk.specs.Ready.{InBuffers, IsGuarded, IsLaid}
 use Rattle.vub_talk.proofs.Refusing.{fit_taken}
 use Rattle.vub_talk.proofs.Valid.{Within, within}
 
@@ -85,22 +85,6 @@ sits_by l fit lies off =
 
 pub sits : (l : Layout) → IsLaid l → Sits l
 sits l laid = sits_by l (fit_taken l laid.taken) (within l laid.lies) (disjoint_taken l laid.taken)
-
--- Guarded bytes
-
--- in the table
-pub record InTable (l : Layout) (x : ℕ) : Type 0 where
-  pub low : l.desc ≤ x
-  pub high : x < l.desc + 16 * l.size
-
--- in the available index
-pub record InIndex (l : Layout) (x : ℕ) : Type 0 where
-  pub low : l.avail + 2 ≤ x
-  pub high : x < l.avail + 4
-
--- by object and place: guest memory shows object 0 from its first address on
-abbrev pub Guarded : Layout → ℕ → ℕ → Type 0
-Guarded l o i = (o ≡ 0) × (InTable l (i + 1048576) ⊎ InIndex l (i + 1048576))
 
 -- Spots of the one region
 
@@ -197,22 +181,22 @@ pub record HasUsed (l : Layout) (r : Ring) : Type 0 where
   pub index : used_index_at r ≡ l.used + 2
 
 -- a byte in the buffers or in the used area is not guarded
-off-buffers : (l : Layout) → Sits l → (o i : ℕ) → InRange l.buffers (l.slot * l.size) (i + 1048576) → Guarded l o i → ⊥
+off-buffers : (l : Layout) → Sits l → (o i : ℕ) → InRange l.buffers (l.slot * l.size) (i + 1048576) → IsGuarded l (i + 1048576) → ⊥
 off-buffers l at o i x guarded =
-    elim guarded.1 [
+    elim guarded [
       | inl table ↦ at.desc_buffers (i + 1048576) table.low table.high x.low x.high
       | inr index ↦ at.avail_buffers (i + 1048576) (omega (arith, index.low)) (omega (arith, index.high)) x.low x.high
     ]
 
-off-used : (l : Layout) → Sits l → (o i : ℕ) → InRange l.used (6 + 8 * l.size) (i + 1048576) → Guarded l o i → ⊥
+off-used : (l : Layout) → Sits l → (o i : ℕ) → InRange l.used (6 + 8 * l.size) (i + 1048576) → IsGuarded l (i + 1048576) → ⊥
 off-used l at o i x guarded =
-    elim guarded.1 [
+    elim guarded [
       | inl table ↦ at.desc_used (i + 1048576) table.low table.high x.low x.high
       | inr index ↦ at.avail_used (i + 1048576) (omega (arith, index.low)) (omega (arith, index.high)) x.low x.high
     ]
 
 -- a put of such a chain writes no guarded byte
-pub put-off : (l : Layout) → Sits l → (r : Ring) (c : Chain) (reply : List ℕ) (o i : ℕ) → HasUsed l r → AreInBuffers l c.segments → IsSpot (put_spots one r c reply) o i → Guarded l o i → ⊥
+pub put-off : (l : Layout) → Sits l → (r : Ring) (c : Chain) (reply : List ℕ) (o i : ℕ) → HasUsed l r → AreInBuffers l c.segments → IsSpot (put_spots one r c reply) o i → IsGuarded l (i + 1048576) → ⊥
 put-off l at r c reply o i used all is =
     elim (spot-split (reply_spots one c.segments reply) (spots_of one (used_element_at r) 8 ++ spots_of one (used_index_at r) 2) o i is) [
       | inl room ↦ off-buffers l at o i (reply-back l c.segments reply o i all room)

@@ -11,8 +11,8 @@ use Rattle.vub_driver.specs.declared.layout.Layout.{Layout}
 use Rattle.vub_model.specs.Headline.{IsSpot, ChangesOnly}
 use Rattle.vub_model.specs.Written.{Spot}
 use Rattle.vub_laws.proofs.Agreeing.{Agree, agree-changed, number-same, Off}
-use Rattle.vub_talk.specs.Ready.{IsHarmless, IsReady}
-use Rattle.vub_talk.proofs.Guarding.{Guarded, InTable, InIndex, one, lies-here}
+use Rattle.vub_talk.specs.Ready.{InTable, InIndex, IsGuarded, IsHarmless, IsReady}
+use Rattle.vub_talk.proofs.Guarding.{one, lies-here}
 
 module _ (P : ℕ → Type 0) where
   -- the byte has one of these addresses
@@ -57,13 +57,10 @@ module _ (P : ℕ → Type 0) where
         let D : Descriptor → Type 0 = λ d. IsHarmless l d in
         subst D (sym (kept-descriptor a these)) old
 
-abbrev pub IsGuarded : Layout → ℕ → Type 0
-IsGuarded l x = InTable l x ⊎ InIndex l x
-
 -- a change of other bytes leaves memory ready
-pub ready-kept : (l : Layout) (n : ℕ) (g h : Guest) (spots : List Spot) → ((o i : ℕ) → IsSpot spots o i → Guarded l o i → ⊥) → ChangesOnly spots g h → IsReady l n g → IsReady l n h
+pub ready-kept : (l : Layout) (n : ℕ) (g h : Guest) (spots : List Spot) → ((o i : ℕ) → IsSpot spots o i → IsGuarded l (i + 1048576) → ⊥) → ChangesOnly spots g h → IsReady l n g → IsReady l n h
 ready-kept l n g h spots off only was =
-    let kept = keeps (IsGuarded l) g h spots was.one off only in
+    let kept = keeps (IsGuarded l) g h spots was.one (λ o i is has. off o i is has.1) only in
     record {
       one = kept.flat;
       long = only.lengths 0 ∙ was.long;

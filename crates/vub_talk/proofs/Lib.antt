@@ -15,3 +15,5 @@ pub mod Acting
 pub mod Opened
 pub mod Rested
 pub mod Submitted
+pub mod Safe
+pub mod Began

@@ -108,10 +108,10 @@ at-range f d (suc n) a (suc q) =
 from-zero : {X : Type 0} (f : ℕ → X) (d : X) (n q : ℕ) → (get_or (map f (range_with_len 0 n)) q d ≡ f q) ⊎ (get_or (map f (range_with_len 0 n)) q d ≡ d)
 from-zero f d n q = (let none : 0 + q ≡ q = omega arith in elim (at-range f d n 0 q) [ inl found ↦ inl (found ∙ ap f none) | inr past ↦ inr past ])
 
-abbrev objects_of : List ℕ → List Object
+abbrev pub objects_of : List ℕ → List Object
 objects_of content = object.Content content ∷ object.Event 0 ∷ object.Event 0 ∷ []
 
-abbrev ring_of : Layout → ℕ → GivenRing
+abbrev pub ring_of : Layout → ℕ → GivenRing
 ring_of l n = record {
   queue = 0;
   size = l.size;
@@ -161,7 +161,7 @@ module _ {V : Type 0} (l : Layout) (at : Sits l) (n : ℕ) (content : List ℕ) 
   abbrev ring : ℕ → Vring
   ring q = ring_from c.max (find (λ (r : GivenRing). eqb r.queue q) (ring_of l n ∷ []))
 
-  rings-before : RingsFit l before
+  pub rings-before : RingsFit l before
   rings-before = by c.queues some where
     first : (queues : ℕ) → 0 < queues → get_or (map (λ q. ring q) (range_with_len 0 queues)) 0 closed_ring ≡ ring 0
     first zero above = absurd (omega (arith, above))

@@ -37,8 +37,8 @@ use Rattle.vub_laws.proofs.DrainRuns.{Goes}
 use Rattle.vub_laws.proofs.Drains.{drains}
 use Rattle.vub_laws.proofs.EventsLeft.{raised-events}
 use Rattle.vub_laws.proofs.Sums.{sum-le, sum-raised}
-use Rattle.vub_talk.specs.Ready.{IsReady}
-use Rattle.vub_talk.proofs.Guarding.{InTable, InIndex, Sits}
+use Rattle.vub_talk.specs.Ready.{InTable, InIndex, IsReady}
+use Rattle.vub_talk.proofs.Guarding.{Sits}
 use Rattle.vub_talk.proofs.Stored.{other-ready, index-ready, chain-ready}
 use Rattle.vub_talk.proofs.Working.{RingsFit, Held, addresses_in, rings-work, held-work, ready-work, zero-queue}
 

@@ -26,8 +26,8 @@ use Rattle.vub_model.specs.World.{World, stored}
 use Rattle.vub_laws.specs.Alone.{store_spots}
 use Rattle.vub_laws.proofs.Stores.{guest-changes}
 use Rattle.vub_talk.specs.Asking.{region}
-use Rattle.vub_talk.specs.Ready.{IsHarmless, IsReady, InBuffers}
-use Rattle.vub_talk.proofs.Guarding.{Guarded, InTable, InIndex, InRange, Sits, one}
+use Rattle.vub_talk.specs.Ready.{InTable, InIndex, IsHarmless, IsReady, InBuffers}
+use Rattle.vub_talk.proofs.Guarding.{InRange, Sits, one}
 use Rattle.vub_talk.proofs.Keeping.{Keeps, keeps, kept-number, kept-harmless, ready-kept}
 
 -- Reading what was stored

@@ -15,7 +15,7 @@ use Rattle.vub_model.specs.Headline.{IsSpot, ChangesOnly}
 use Rattle.vub_model.specs.Written.{spots_of}
 use Rattle.vub_talk.specs.Asking.{is_large, region}
 use Rattle.vub_talk.specs.declared.ask.Ask.{Ask}
-use Rattle.vub_talk.specs.Ready.{IsLaid, IsReady}
+use Rattle.vub_talk.specs.Ready.{InTable, InIndex, IsLaid, IsReady}
 use Rattle.vub_talk.proofs.Accepting.{request_fits}
 use Rattle.vub_talk.proofs.Acting.{RoomFits, room_fits, request-off, slot-off}
 use Rattle.vub_talk.proofs.Guarding.{Sits, sits, spot-back, spot-here}

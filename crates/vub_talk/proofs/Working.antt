@@ -33,9 +33,9 @@ use Rattle.vub_model.proofs.Counting.{field-kept}
 use Rattle.vub_model.proofs.Live.{looked-live, live-parts}
 use Rattle.vub_model.proofs.Waking.{called-ring}
 use Rattle.vub_laws.proofs.EntriesLeft.{took-here}
-use Rattle.vub_talk.specs.Ready.{IsReady}
+use Rattle.vub_talk.specs.Ready.{IsGuarded, IsReady}
 use Rattle.vub_talk.proofs.Chained.{taken-in}
-use Rattle.vub_talk.proofs.Guarding.{AreInBuffers, Guarded, HasUsed, Sits, one, put-off}
+use Rattle.vub_talk.proofs.Guarding.{AreInBuffers, HasUsed, Sits, one, put-off}
 use Rattle.vub_talk.proofs.Keeping.{ready-kept}
 
 -- Rings
@@ -146,7 +146,7 @@ module _ {V : Type 0} (m : Meaning V) (g : Wiring) (k : ℕ) (h : Shared V) (l :
     take-off q (took.Damaged d) true o i is = is
     take-off q took.None true o i is = (let E : Bool → Type 0 = λ b. IsSpot (cond b (spots_of h.guest.regions (avail_event_at (ring_at h q).queue) 2) []) o i in subst E (rings.plain q) is)
 
-    said-off : (e : Entry) (reply : List ℕ) → AreInBuffers l e.chain.segments → (b : Bool) → has_addresses (ring_at h e.queue) ≡ b → (o i : ℕ) → IsSpot (if_used (cond b (answer_put h.guest (ring_at h e.queue).queue e.chain reply) (Err put_fault.RingOutside)) (put_spots h.guest.regions (ring_at h e.queue).queue e.chain reply)) o i → Guarded l o i → ⊥
+    said-off : (e : Entry) (reply : List ℕ) → AreInBuffers l e.chain.segments → (b : Bool) → has_addresses (ring_at h e.queue) ≡ b → (o i : ℕ) → IsSpot (if_used (cond b (answer_put h.guest (ring_at h e.queue).queue e.chain reply) (Err put_fault.RingOutside)) (put_spots h.guest.regions (ring_at h e.queue).queue e.chain reply)) o i → IsGuarded l (i + 1048576) → ⊥
     said-off e reply held false has o i is guarded = is
     said-off e reply held true has o i is guarded = by (answer_put h.guest (ring_at h e.queue).queue e.chain reply) is where
       by : (said : Result Bool PutFault) → IsSpot (if_used said (put_spots h.guest.regions (ring_at h e.queue).queue e.chain reply)) o i → ⊥
@@ -156,22 +156,20 @@ module _ {V : Type 0} (m : Meaning V) (g : Wiring) (k : ℕ) (h : Shared V) (l :
           put-off l at (ring_at h e.queue).queue e.chain reply o i (used-layout e.queue (zero-queue e.queue has)) held (subst R ready.one is) guarded
 
     -- what a step writes is not guarded
-    Off : Phase → Play → Type 0
-    Off phase p = Held l phase → (o i : ℕ) → IsSpot (written_by h p phase) o i → Guarded l o i → ⊥
+    abbrev pub Off : Phase → Play → Type 0
+    Off phase p = Held l phase → (o i : ℕ) → IsSpot (written_by h p phase) o i → IsGuarded l (i + 1048576) → ⊥
 
     take-written : (queues : List ℕ) → Off (Serving queues) play.Take
-    unfolding Off
     take-written [] held o i is guarded = is
     take-written (q ∷ rest) held o i is guarded = take-off q (looked h q) (may_take (ring_at h q)) o i is
 
     put-written : (e : Entry) (reply queues : List ℕ) → Off (Served e reply queues) play.Put
-    unfolding Off put_said
+    unfolding put_said
     put-written e reply queues held o i is guarded = said-off e reply held (has_addresses (ring_at h e.queue)) refl o i is guarded
 
-    written-off : (phase : Phase) (p : Play) → MayWork g k h phase p → Off phase p
-    unfolding Off
+    pub written-off : (phase : Phase) (p : Play) → MayWork g k h phase p → Off phase p
     written-off =
-        work-cases g k h (λ phase p. Held l phase → (o i : ℕ) → IsSpot (written_by h p phase) o i → Guarded l o i → ⊥)
+        work-cases g k h (λ phase p. Held l phase → (o i : ℕ) → IsSpot (written_by h p phase) o i → IsGuarded l (i + 1048576) → ⊥)
         (λ object may held o i is guarded. is)
         (λ object token held o i is guarded. is)
         (λ held o i is guarded. is)
@@ -181,5 +179,4 @@ module _ {V : Type 0} (m : Meaning V) (g : Wiring) (k : ℕ) (h : Shared V) (l :
         (λ e reply queues. put-written e reply queues)
 
     pub ready-work : (phase : Phase) (p : Play) → MayWork g k h phase p → Held l phase → IsReady l n (after_work m g k h phase p).shared.guest
-    unfolding Off
     ready-work phase p may held = ready-kept l n h.guest (after_work m g k h phase p).shared.guest (written_by h p phase) (written-off phase p may held) (confined-work h m g k phase p) ready
