@@ -17,3 +17,4 @@ pub mod Rested
 pub mod Submitted
 pub mod Safe
 pub mod Began
+pub mod Spanned

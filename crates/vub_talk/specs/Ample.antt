@@ -13,25 +13,28 @@ use Rattle.vub_talk.specs.declared.ask.Ask.{Ask}
 use Rattle.vub_talk.specs.declared.fault.TalkFault.{TalkFault}
 use Rattle.vub_talk.specs.declared.fault.TalkFault.TheVariants as fault
 
--- The set-up is that of a batch of these asks over guest memory that is ready, with a layout that is taken and lies in
--- it. The device has one worker, so that three parties have a turn in each round: the guest, control and the worker. For
--- each ask there are thirteen rounds, and 26 besides.
-pub record IsAmple (k : Constants) (setup : Setup) (schedule : List ℕ) : Type 0 where
+-- The set-up is that of a batch of these asks, over guest memory that is ready, for a device with a queue.
+pub record IsBatch (k : Constants) (setup : Setup) : Type 0 where
   pub layout : Layout
   pub number : ℕ
   pub guest : Guest
   pub asks : List Ask
-  pub rounds : ℕ
   pub setup_is :
       setup
       ≡ batch_setup layout number (content_of guest.contents 0) (asks_stored layout number asks ++ Signal 1 ∷ [])
-  pub schedule_is : schedule ≡ schedule_of rounds 3
-  pub one : length k.masks ≡ 1
   pub queues : 0 < k.queues
   pub laid : IsLaid layout
   pub small : AreSmall layout asks
   pub ready : IsReady layout number guest
-  pub enough : 13 * length asks + 26 ≤ rounds
+
+-- The device has one worker, so that three parties have a turn in each round: the guest, control and the worker. For
+-- each ask there are thirteen rounds, and 26 besides.
+pub record IsAmple (k : Constants) (setup : Setup) (schedule : List ℕ) : Type 0 where
+  pub batch : IsBatch k setup
+  pub one : length k.masks ≡ 1
+  pub rounds : ℕ
+  pub schedule_is : schedule ≡ schedule_of rounds 3
+  pub enough : 13 * length batch.asks + 26 ≤ rounds
   pub few : rounds < 2 ^ 32
 
 -- a party still had a step

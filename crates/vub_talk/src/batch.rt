@@ -1,11 +1,12 @@
 //! One batch of a conversation.
-ghost use Rattle.std.specs.Prelude.{◌≡◌, ◌+◌, ◌++◌, ◌∷◌, [], length, None, IfOk, IfErr, OnOk};
+ghost use Rattle.std.specs.Prelude.{◌≡◌, ◌<◌, ◌+◌, ◌++◌, ◌∷◌, [], length, None, IfOk, IfErr, OnOk};
 ghost use Rattle.vub_mem.specs.Place.{content_of};
 ghost use Rattle.vub_model.specs.ValidSetup.{fault_of};
-ghost use Rattle.vub_talk.specs.Ample.{IsAmple, IsRestless};
+ghost use Rattle.vub_talk.specs.Ample.{IsAmple, IsBatch, IsRestless};
 ghost use Rattle.vub_talk.specs.Asking.{AreSmall, HasMoved, MaySubmit, NumbersOn};
 ghost use Rattle.vub_talk.specs.Late.{IsLate};
 ghost use Rattle.vub_talk.specs.Machine.{constants_in, fixed, setup_for};
+ghost use Rattle.vub_talk.specs.Ready.{AreOff, IsLaid, IsReady};
 
 use crate::ask::Ask;
 use crate::constants::{CALL, MEMORY};
@@ -41,7 +42,7 @@ fn device_of(alloc: Global, constants: &Constants) -> Result<FixedDevice, OutOfM
 ///
 /// # Errors
 /// `NotAtRest`, but not where there are enough rounds; and want of memory.
-#[tactic(auto, using(crate::proofs::Rested::ample_rests))]
+#[tactic(auto, using(crate::proofs::Rested::ample_rests, crate::proofs::Rested::batch_off))]
 fn play<V: Service>(
     alloc: Global,
     setup: &Setup,
@@ -54,6 +55,8 @@ fn play<V: Service>(
     ensures only { IfErr result IsLate }
     ensures ample { IfErr result (λ e.
         IsAmple (constants_in device.old) setup.now schedule.now → IsRestless e → ⊥) }
+    ensures off { IfOk result (λ run. (b : IsBatch (constants_in device.old) setup.now) →
+        AreOff b.layout run.written) }
 {
     match drive(alloc, setup, device, service, schedule) {
         Ok(run) => {
@@ -96,12 +99,17 @@ pub(crate) fn talk_batch<V: Service>(
     requires small { AreSmall layout.now asks.now }
     requires valid { fault_of (constants_in (fixed constants.now))
         (setup_for conversation.old.driver conversation.old.memory.guest asks.now) ≡ None }
+    requires queues { 0 < constants.now.queues }
+    requires laid { IsLaid layout.now }
+    requires ready { IsReady layout.now conversation.old.driver.submitted conversation.old.memory.guest }
     ensures driver { OnOk result
         (HasMoved (length asks.now) (length asks.now) conversation.old.driver conversation.new.driver) }
     ensures regions { OnOk result
         (conversation.new.memory.guest.regions ≡ conversation.old.memory.guest.regions) }
     ensures bytes { OnOk result (length (content_of conversation.new.memory.guest.contents 0)
         ≡ length (content_of conversation.old.memory.guest.contents 0)) }
+    ensures ready { OnOk result (IsReady layout.now (conversation.old.driver.submitted + length asks.now)
+        conversation.new.memory.guest) }
     ensures answers { OnOk result (NumbersOn conversation.old.driver.collected (length asks.now)
         talk.old.answers talk.new.answers) }
     ensures calls { OnOk result (length talk.new.calls ≡ length talk.old.calls + 1) }

@@ -1,5 +1,5 @@
 //! The guest's side of a conversation: its driver, and guest memory as it stands between two batches.
-ghost use Rattle.std.specs.Prelude.{◌≡◌, ◌⊎◌, ◌+◌, ◌-◌, ◌++◌, ◌∷◌, ◌<◌, ◌^◌, [], false, None, Some, length, option_map};
+ghost use Rattle.std.specs.Prelude.{ℕ, ◌≡◌, ◌⊎◌, ◌+◌, ◌-◌, ◌++◌, ◌∷◌, ◌<◌, ◌^◌, [], false, None, Some, length, option_map};
 ghost use Rattle.std.specs.Prelude.{IfOk, IfErr, IfSome, OnOk, OnErr};
 ghost use Rattle.vub_mem.specs.Place.{content_of};
 ghost use Rattle.vub_driver.specs.Calls.{new_state, state_submitted, submit_fault, submit_guest};
@@ -9,7 +9,8 @@ ghost use Rattle.vub_model.specs.declared.setup.Guest.TheVariants.{Signal};
 ghost use Rattle.vub_talk.specs.Asking.{blank, zeros, AreSmall, HasMoved, MaySubmit, NumbersOn};
 ghost use Rattle.vub_talk.specs.Batches.{asks_stored, batch_setup, stores_of};
 ghost use Rattle.vub_talk.specs.Late.{refusal_of, IsLate};
-ghost use Rattle.vub_talk.specs.Ready.{IsLaid, IsReady};
+ghost use Rattle.vub_talk.specs.Ready.{AreOff, IsLaid, IsReady};
+ghost use Rattle.vub_model.specs.World.{stored};
 
 use crate::ask::Ask;
 use crate::constants::{MEMORY, MEMORY_LEN, MEMORY_START};
@@ -94,8 +95,9 @@ pub(crate) fn zero_memory(alloc: Global) -> Result<GuestMemory<()>, OutOfMemory>
 }
 
 /// Stores bytes that a run wrote.
-#[tactic(auto, using(crate::proofs::Asked::store_length))]
+#[tactic(auto, using(crate::proofs::Asked::store_length), unfolding(vub_model::specs::World::stored))]
 fn store_span(memory: &mut GuestMemory<()>, span: &Span)
+    ensures stored { memory.new.guest ≡ stored memory.old.guest 0 span.now.offset span.now.bytes }
     ensures bytes { length (content_of memory.new.guest.contents 0)
         ≡ length (content_of memory.old.guest.contents 0) }
     ensures regions { memory.new.guest.regions ≡ memory.old.guest.regions }
@@ -182,6 +184,8 @@ impl Conversation {
             ≡ length (content_of self.old.memory.guest.contents 0) }
         ensures regions { self.new.memory.guest.regions ≡ self.old.memory.guest.regions }
         ensures driver { self.new.driver ≡ self.old.driver }
+        ensures ready { (l : Layout) (n : ℕ) → IsLaid l → AreOff l spans.now →
+            IsReady l n self.old.memory.guest → IsReady l n self.new.memory.guest }
     {
         for span in spans {
             store_span(&mut self.memory, span);
