@@ -18,3 +18,4 @@ pub mod Submitted
 pub mod Safe
 pub mod Began
 pub mod Spanned
+pub mod Blank

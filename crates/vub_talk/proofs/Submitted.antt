@@ -93,3 +93,7 @@ submitted-ready l n i k number g h a layout same small laid was is =
     let next : n + i + 1 ≡ n + (i + 1) = omega arith in
     ready-at l (n + i + 1) (n + (i + 1)) h next
     (subst R here (submit-ready l (sits l laid) (n + i) g a.request a.room (request_fits l (length a.request) a.room small) (room_fits l (length a.request) a.room small) was))
+
+-- the memory behind a batch is that of the next
+pub carried : (l k : Layout) (number count done more : ℕ) (g : Guest) → k ≡ l → number ≡ done → count ≡ more → IsReady l (number + count) g → IsReady l (done + more) g
+carried l k number count done more g layout same long ready = ready-at l (number + count) (done + more) g (omega (arith, same, long)) ready
