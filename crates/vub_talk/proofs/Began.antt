@@ -1,17 +1,12 @@
 -- A batch begins with memory that is ready, and the device has written nothing.
-use Rattle.std.proofs.Common.{◌≡◌, ◌⊎◌, ℕ, zero, suc, ◌+◌, ◌*◌, ◌<◌, Bool, true, false, true≢false, Option, Some, None, List, [], ◌∷◌, ◌++◌, length, get_or, map, replicate, refl, sym, subst, ◌∙◌, arith}
-use Rattle.std.specs.List.{AllByRecursion}
+use Rattle.std.proofs.Common.{◌≡◌, ℕ, zero, suc, ◌+◌, ◌*◌, ◌<◌, Bool, true, false, true≢false, Option, Some, None, List, [], ◌∷◌, ◌++◌, length, get_or, map, replicate, refl, sym, subst, ◌∙◌}
 use Rattle.vub_mem.specs.Memory as memory
 use Rattle.vub_driver.specs.declared.layout.Layout.{Layout}
-use Rattle.vub_model.specs.declared.cause.StopCause.TheVariants.{Exit}
 use Rattle.vub_model.specs.declared.constants.Constants.{Constants}
-use Rattle.vub_model.specs.declared.phase.Phase.{Phase}
-use Rattle.vub_model.specs.declared.phase.Phase.TheVariants.{Idle, Stopped}
-use Rattle.vub_model.specs.declared.play.Play.{Play}
+use Rattle.vub_model.specs.declared.phase.Phase.TheVariants.{Idle}
 use Rattle.vub_model.specs.declared.records.Span.{Span}
 use Rattle.vub_model.specs.declared.setup.Guest.TheVariants.{Signal}
 use Rattle.vub_model.specs.declared.setup.Object.{Object}
-use Rattle.vub_model.specs.declared.setup.Object.TheVariants as object
 use Rattle.vub_model.specs.declared.wiring.Place.{Place}
 use Rattle.vub_model.specs.Opening.{opening, opening_rings, opening_table, wiring_of, claimed, placed, unwritten}
 use Rattle.vub_model.specs.RunRecords.{spans_from}
@@ -21,13 +16,13 @@ use Rattle.vub_model.specs.World.{phase_at}
 use Rattle.vub_model.specs.Written.{is_written}
 use Rattle.vub_talk.specs.Asking.{AreSmall}
 use Rattle.vub_talk.specs.Batches.{asks_stored, batch_setup}
-use Rattle.vub_talk.specs.Ready.{IsGuarded, AreOff, IsOff, IsReady}
+use Rattle.vub_talk.specs.Ready.{IsGuarded, AreOff, IsReady}
 use Rattle.vub_talk.specs.declared.ask.Ask.{Ask}
 use Rattle.vub_talk.proofs.Acting.{batch-acts}
 use Rattle.vub_talk.proofs.Guarding.{Sits, one}
-use Rattle.vub_talk.proofs.Opened.{objects_of, ring_of, rings-before}
+use Rattle.vub_talk.proofs.Openings.{objects_of, ring_of, rings-before}
 use Rattle.vub_talk.proofs.Safe.{IsSafe, spans-off}
-use Rattle.vub_talk.proofs.Working.{RingsFit, Held}
+use Rattle.vub_talk.proofs.Leaving.{RingsFit, Held}
 
 -- each worker is idle, or is none
 idle-held : (l : Layout) (masks : List ℕ) (j : ℕ) → Held l (phase_at (map (λ mask. Idle) masks) j)

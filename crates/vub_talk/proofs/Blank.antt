@@ -1,5 +1,5 @@
 -- A memory of zero bytes is ready for the first request.
-use Rattle.std.proofs.Common.{◌≡◌, ℕ, zero, suc, ◌+◌, ◌-◌, ◌*◌, ◌<◌, Bool, true, false, true≢false, cond, not, Some, None, List, [], ◌∷◌, get_or, replicate, refl, sym, ap, ap₂, ◌∙◌, arith, eqb, bit_and}
+use Rattle.std.proofs.Common.{◌≡◌, ℕ, zero, suc, ◌+◌, ◌-◌, ◌*◌, Bool, true, false, true≢false, cond, not, Some, None, [], ◌∷◌, get_or, replicate, refl, sym, ap, ap₂, ◌∙◌, arith, eqb, bit_and}
 use Rattle.vub_mem.specs.Place.{byte_at, byte_in, bytes_at, holds, number_at}
 use Rattle.std.specs.Int.{w16}
 use Rattle.vub_queue.specs.Chain.{descriptor_at, is_writable}

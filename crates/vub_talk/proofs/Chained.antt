@@ -1,6 +1,5 @@
 -- The chain of an entry that is taken from a memory that is ready: what the device may write lies in the buffers.
-use Rattle.std.proofs.Common.{◌≡◌, ℕ, ◌+◌, ◌*◌, ◌<◌, Bool, true, false, cond, Some, List, [], ◌∷◌, map, filter, refl, sym, ap, subst, ◌∙◌, arith}
-use Rattle.std.specs.List.{AllByRecursion}
+use Rattle.std.proofs.Common.{◌≡◌, ℕ, ◌+◌, ◌*◌, Bool, true, false, cond, List, [], ◌∷◌, map, filter, refl, sym, ap, subst, ◌∙◌, arith}
 use Rattle.vub_mem.specs.Memory.{Guest}
 use Rattle.vub_queue.specs.Chain.{Links, Stands, descriptor_at, is_writable, segment_of, segments_of}
 use Rattle.vub_queue.specs.Function.{took_of}
@@ -14,7 +13,7 @@ use Rattle.vub_queue.specs.declared.took.Took.{Took}
 use Rattle.vub_queue.specs.declared.took.Took.TheVariants as took
 use Rattle.vub_queue.proofs.Walks.{takes_some}
 use Rattle.vub_driver.specs.declared.layout.Layout.{Layout}
-use Rattle.vub_talk.specs.Ready.{InBuffers, IsHarmless, IsTableHarmless}
+use Rattle.vub_talk.specs.Ready.{IsHarmless, IsTableHarmless}
 use Rattle.vub_talk.proofs.Guarding.{AreInBuffers}
 
 one-more : (l : Layout) (d : Descriptor) (ds : List Descriptor) → IsHarmless l d → AreInBuffers l (segments_of ds) → AreInBuffers l (segments_of (d ∷ ds))

@@ -1,5 +1,5 @@
 -- A change of no guarded byte leaves memory ready.
-use Rattle.std.proofs.Common.{◌≡◌, ◌⊎◌, ℕ, ◌+◌, ◌*◌, ◌<◌, ◌≤◌, inl, inr, List, [], ◌∷◌, refl, sym, ap, subst, ◌∙◌, arith}
+use Rattle.std.proofs.Common.{◌≡◌, ℕ, ◌+◌, ◌*◌, ◌<◌, ◌≤◌, inl, inr, List, refl, sym, subst, ◌∙◌, arith}
 use Rattle.std.specs.Int.{Width, w16, w32, w64, byte_len}
 use Rattle.vub_mem.specs.declared.region.Region.{Region}
 use Rattle.vub_mem.specs.Memory.{Guest}
@@ -11,7 +11,7 @@ use Rattle.vub_driver.specs.declared.layout.Layout.{Layout}
 use Rattle.vub_model.specs.Headline.{IsSpot, ChangesOnly}
 use Rattle.vub_model.specs.Written.{Spot}
 use Rattle.vub_laws.proofs.Agreeing.{Agree, agree-changed, number-same, Off}
-use Rattle.vub_talk.specs.Ready.{InTable, InIndex, IsGuarded, IsHarmless, IsReady}
+use Rattle.vub_talk.specs.Ready.{IsGuarded, IsHarmless, IsReady}
 use Rattle.vub_talk.proofs.Guarding.{one, lies-here}
 
 module _ (P : ℕ → Type 0) where
@@ -39,8 +39,8 @@ module _ (P : ℕ → Type 0) where
     kept-number w a these =
         let O : List Region → Type 0 = λ rs. Off Free rs a (byte_len w) in
         let off : O one = λ k below o i lies free.
-            let at = lies-here (a + k) o i lies in
-            free (at.0, subst P at.1 (these (a + k) (omega arith) (omega (arith, below)))) in
+        let at = lies-here (a + k) o i lies in
+        free (at.0, subst P at.1 (these (a + k) (omega arith) (omega (arith, below)))) in
         sym (number-same Free w h g a (subst O (sym kept.flat) off) kept.agree)
 
     pub kept-descriptor : (a : ℕ) → ((x : ℕ) → a ≤ x → x < a + 16 → P x) → descriptor_at h a ≡ descriptor_at g a

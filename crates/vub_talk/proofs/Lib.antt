@@ -8,14 +8,14 @@ pub mod Guarding
 pub mod Keeping
 pub mod Stored
 pub mod Chained
-pub mod Working
+pub mod Leaving
 pub mod Standing
 pub mod Resting
 pub mod Acting
-pub mod Opened
+pub mod Openings
 pub mod Rested
 pub mod Submitted
 pub mod Safe
 pub mod Began
-pub mod Spanned
+pub mod Spans
 pub mod Blank

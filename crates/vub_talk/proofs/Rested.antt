@@ -1,5 +1,5 @@
 -- A batch with enough rounds ends at rest.
-use Rattle.std.proofs.Common.{◌≡◌, ℕ, zero, suc, ◌+◌, ◌*◌, ◌^◌, ◌<◌, ◌≤◌, Bool, true, false, List, [], ◌∷◌, ◌++◌, length, None, IsTrue, refl, sym, ap, subst, ◌∙◌, arith}
+use Rattle.std.proofs.Common.{◌≡◌, ℕ, zero, suc, ◌+◌, ◌*◌, ◌^◌, ◌<◌, ◌≤◌, true, List, [], ◌∷◌, ◌++◌, length, refl, sym, subst, arith}
 use Rattle.std.specs.List.{range_with_len, repeat}
 use Rattle.vub_mem.specs.Memory.{Guest}
 use Rattle.vub_mem.specs.Place.{content_of}
@@ -19,7 +19,7 @@ use Rattle.vub_model.specs.ValidSetup.{IsValid}
 use Rattle.vub_model.specs.World.{World}
 use Rattle.vub_core.specs.DeviceRun.{DeviceState}
 use Rattle.vub_core.specs.Outcome.{IsPlayed}
-use Rattle.vub_laws.proofs.DrainRuns.{Goes, opening-goes}
+use Rattle.vub_laws.proofs.DrainRuns.{opening-goes}
 use Rattle.vub_talk.specs.Ample.{IsAmple, IsBatch}
 use Rattle.vub_talk.specs.Asking.{AreSmall}
 use Rattle.vub_talk.specs.Batches.{asks_stored, batch_setup}
@@ -27,7 +27,7 @@ use Rattle.vub_talk.specs.Ready.{AreOff, IsReady}
 use Rattle.vub_talk.specs.declared.ask.Ask.{Ask}
 use Rattle.vub_talk.proofs.Began.{opening-safe, objects-off}
 use Rattle.vub_talk.proofs.Guarding.{Sits, sits, one}
-use Rattle.vub_talk.proofs.Opened.{opening-stands, opening-measure, ready-alike}
+use Rattle.vub_talk.proofs.Openings.{opening-stands, opening-measure, ready-alike}
 use Rattle.vub_talk.proofs.Resting.{comes-to-rest}
 use Rattle.vub_talk.proofs.Safe.{IsSafe, run-safe}
 

@@ -1,5 +1,5 @@
 -- A batch comes to rest: in each round in which a party has a step less is left.
-use Rattle.std.proofs.Common.{◌≡◌, ◌≢◌, ◌⊎◌, ℕ, zero, suc, ◌+◌, ◌-◌, ◌<◌, ◌≤◌, inl, inr, List, [], ◌∷◌, length, refl, sym, subst, arith}
+use Rattle.std.proofs.Common.{◌≡◌, ◌⊎◌, ℕ, zero, suc, ◌+◌, ◌<◌, inl, inr, List, [], ◌∷◌, length, sym, subst, arith}
 use Rattle.std.specs.List.{range_with_len, repeat}
 use Rattle.vub_driver.specs.declared.layout.Layout.{Layout}
 use Rattle.vub_proto.specs.declared.device_said.DeviceSaid.{DeviceSaid}
@@ -11,7 +11,7 @@ use Rattle.vub_model.specs.declared.small.Small.{Small}
 use Rattle.vub_model.specs.Control.{MayControl}
 use Rattle.vub_model.specs.RunOf.{HasNoStep, IsAtRest, IsRun, Turn, party_of}
 use Rattle.vub_model.specs.Service.{Meaning}
-use Rattle.vub_model.specs.World.{World, May, after, after_guest, phase_at}
+use Rattle.vub_model.specs.World.{World, May, after}
 use Rattle.vub_model.proofs.Owners.{within-phases}
 use Rattle.vub_model.proofs.Sound.{sound-turn}
 use Rattle.vub_model.proofs.Turns.{turn-cases}

@@ -1,8 +1,7 @@
 -- In a run of a batch, of however many workers, memory stays ready, and no guarded byte is written by the device.
-use Rattle.std.proofs.Common.{◌≡◌, ◌≢◌, ◌⊎◌, ℕ, zero, suc, ◌+◌, ◌-◌, ◌<◌, ◌≤◌, inl, inr, Bool, true, false, true≢false, List, [], ◌∷◌, ◌++◌, length, get_or, set, slice_set, cond, refl, sym, ap, subst, ◌∙◌, arith, eqb}
+use Rattle.std.proofs.Common.{◌≡◌, ◌≢◌, ◌⊎◌, ℕ, ◌+◌, ◌-◌, inl, inr, Bool, true, false, List, [], ◌∷◌, length, get_or, set, cond, refl, sym, ap, subst, ◌∙◌, arith, eqb}
 use Rattle.std.specs.Int.{w16, to_le_bytes}
-use Rattle.std.specs.List.{AllByRecursion}
-use Rattle.std.proofs.lemmas.Bool.{cases_Bool, cases_eq, cases_lt, eqb-true}
+use Rattle.std.proofs.lemmas.Bool.{cases_eq, cases_lt, eqb-true}
 use Rattle.std.proofs.lemmas.List.{get_or-set_same, get_or-set_other, set_past}
 use Rattle.vub_driver.specs.Calls.{chain_bytes, index_of}
 use Rattle.vub_driver.specs.declared.layout.Layout.{Layout}
@@ -31,7 +30,7 @@ use Rattle.vub_talk.specs.Ready.{IsGuarded, IsOff, AreOff, IsReady}
 use Rattle.vub_talk.proofs.Guarding.{Sits}
 use Rattle.vub_talk.proofs.Standing.{Acts}
 use Rattle.vub_talk.proofs.Stored.{other-ready, index-ready, chain-ready}
-use Rattle.vub_talk.proofs.Working.{RingsFit, Held, rings-work, held-work, ready-work, written-off}
+use Rattle.vub_talk.proofs.Leaving.{RingsFit, Held, rings-work, held-work, ready-work, written-off}
 
 -- Flags
 

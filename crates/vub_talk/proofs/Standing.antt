@@ -1,5 +1,5 @@
 -- What holds of the world of a batch between two turns, and what each turn makes of the work that is left.
-use Rattle.std.proofs.Common.{◌≡◌, ◌≢◌, ◌⊎◌, ℕ, zero, suc, ◌+◌, ◌-◌, ◌*◌, ◌%◌, ◌^◌, ◌<◌, ◌≤◌, inl, inr, Bool, true, false, true≢false, cond, Option, Some, None, is_some, unwrap_or, List, [], ◌∷◌, length, slice_set, refl, sym, ap, ap₂, subst, ◌∙◌, arith}
+use Rattle.std.proofs.Common.{◌≡◌, ◌≢◌, ◌⊎◌, ℕ, ◌+◌, ◌-◌, ◌*◌, ◌^◌, ◌<◌, ◌≤◌, inl, inr, Bool, true, false, cond, Option, Some, is_some, unwrap_or, List, [], ◌∷◌, length, refl, sym, ap, ap₂, subst, ◌∙◌, arith}
 use Rattle.std.specs.Int.{w16, to_le_bytes}
 use Rattle.std.specs.Prelude.{sum_by}
 use Rattle.std.specs.List.{range_with_len}
@@ -16,7 +16,6 @@ use Rattle.vub_driver.specs.Places.{descriptors_at, avail_index_at}
 use Rattle.vub_driver.specs.declared.layout.Layout.{Layout}
 use Rattle.vub_event.specs.HostTable.{members_at}
 use Rattle.vub_model.specs.declared.cause.StopCause.TheVariants.{Exit}
-use Rattle.vub_model.specs.declared.party.Party.{Party}
 use Rattle.vub_model.specs.declared.party.Party.TheVariants as party
 use Rattle.vub_model.specs.declared.phase.Phase.{Phase}
 use Rattle.vub_model.specs.declared.phase.Phase.TheVariants.{Stopped}
@@ -26,7 +25,7 @@ use Rattle.vub_model.specs.declared.setup.Guest.TheVariants.{Store, Signal, Harv
 use Rattle.vub_model.specs.RingRecord.{Vring, has_addresses}
 use Rattle.vub_model.specs.Running.{index_word}
 use Rattle.vub_model.specs.Service.{Meaning}
-use Rattle.vub_model.specs.Shared.{Shared, ring_at, pending_at, raised}
+use Rattle.vub_model.specs.Shared.{Shared, ring_at, pending_at}
 use Rattle.vub_model.specs.Wiring.{Wiring, opened_at, place_of}
 use Rattle.vub_model.specs.Work.{MayWork, after_work}
 use Rattle.vub_model.specs.World.{World, after, after_guest, phase_at, stored}
@@ -40,7 +39,7 @@ use Rattle.vub_laws.proofs.Sums.{sum-le, sum-raised}
 use Rattle.vub_talk.specs.Ready.{InTable, InIndex, IsReady}
 use Rattle.vub_talk.proofs.Guarding.{Sits}
 use Rattle.vub_talk.proofs.Stored.{other-ready, index-ready, chain-ready}
-use Rattle.vub_talk.proofs.Working.{RingsFit, Held, addresses_in, rings-work, held-work, ready-work, zero-queue}
+use Rattle.vub_talk.proofs.Leaving.{RingsFit, Held, addresses_in, rings-work, held-work, ready-work, zero-queue}
 
 -- The guest's actions that are left
 
@@ -240,9 +239,9 @@ module _ {V : Type 0} (m : Meaning V) (l : Layout) (at : Sits l) (w : World V) (
             let index : (h : Shared V) → RingsFit l h → ring_index_at (ring_at h 0).queue ≡ avail_index_at l = λ h fit. ap (λ (x : Option Addresses). (unwrap_or x (record { desc = 0; avail = 0; used = 0 })).avail + 2) fit.addresses in
             let word : (h : Shared V) → RingsFit l h → IsReady l n h.guest → index_word h 0 ≡ index_of n = λ h fit is. ap (number_at w16 h.guest) (index h fit) ∙ is.index in
             let words : SameWords w z = λ q has.
-                let same : q ≡ 0 = zero-queue m w.wiring 0 w.shared l at stands.rings q has in
-                let W : ℕ → Type 0 = λ x. index_word z.shared x ≡ index_word w.shared x in
-                subst W (sym same) (word z.shared rings ready ∙ sym (word w.shared stands.rings stands.ready)) in
+            let same : q ≡ 0 = zero-queue m w.wiring 0 w.shared l at stands.rings q has in
+            let W : ℕ → Type 0 = λ x. index_word z.shared x ≡ index_word w.shared x in
+            subst W (sym same) (word z.shared rings ready ∙ sym (word w.shared stands.rings stands.ready)) in
             let less = drains m w goes.sound.calm i goes.plain 0 (let single = stands.one in omega (arith, single)) p may words in
             record {
               n = n;

@@ -1,34 +1,31 @@
 -- What a store of the guest leaves of a memory that is ready.
-use Rattle.std.proofs.Common.{◌≡◌, ◌⊎◌, ℕ, zero, suc, ◌+◌, ◌-◌, ◌*◌, ◌^◌, ◌<◌, ◌≤◌, inl, inr, Bool, true, false, true≢false, not, List, [], ◌∷◌, ◌++◌, length, get_or, take, drop, Some, refl, sym, ap, ap₂, subst, ◌∙◌, arith, eqb, nat_le, bit_and}
-use Rattle.std.specs.Int.{w16, w32, w64, byte_len, to_le_bytes, from_le_bytes}
-use Rattle.std.proofs.lemmas.Bool.{cases_Bool, cases_eq, cases_lt, cond_both, le-leb, lt-ltb, and_from}
+use Rattle.std.proofs.Common.{◌≡◌, ◌⊎◌, ℕ, zero, suc, ◌+◌, ◌-◌, ◌*◌, ◌^◌, ◌<◌, ◌≤◌, inl, inr, true, false, true≢false, not, List, [], ◌∷◌, ◌++◌, length, get_or, take, drop, Some, refl, sym, ap, ap₂, subst, ◌∙◌, arith, eqb, nat_le, bit_and}
+use Rattle.std.specs.Int.{w16, w32, w64, to_le_bytes, from_le_bytes}
+use Rattle.std.proofs.lemmas.Bool.{cases_Bool, cases_eq, cases_lt, le-leb}
 use Rattle.std.proofs.lemmas.List.{get_or_append_left, get_or-append_right, length-take-le}
-use Rattle.std.proofs.lemmas.Nat.{from_le_bytes-to_le_bytes_2, from_le_bytes-to_le_bytes_4, from_le_bytes-to_le_bytes_8}
+use Rattle.std.proofs.lemmas.Nat.{from_le_bytes-to_le_bytes_4, from_le_bytes-to_le_bytes_8}
 use Rattle.vub_mem.specs.declared.content.Content.{Content}
-use Rattle.vub_mem.specs.declared.region.Region.{Region}
 use Rattle.vub_mem.specs.Memory as memory
 use Rattle.vub_mem.specs.Place.{byte_at, bytes_at, byte_in, content_of, number_at, overwritten, region_of, store_at, with_bytes}
 use Rattle.vub_mem.proofs.Contents.{content_true, content_false, stores_true, stores_false}
 use Rattle.vub_queue.specs.Chain.{descriptor_at, is_writable}
 use Rattle.vub_queue.specs.declared.descriptor.Descriptor.{Descriptor}
 use Rattle.vub_driver.specs.Calls.{chain_bytes, index_of}
-use Rattle.vub_driver.specs.Places.{half_of, place_of, head_of, request_at, reply_at, descriptors_at, avail_index_at}
-use Rattle.vub_driver.specs.View.{IsFit}
+use Rattle.vub_driver.specs.Places.{half_of, place_of, head_of, reply_at, descriptors_at, avail_index_at}
 use Rattle.vub_driver.specs.declared.layout.Layout.{Layout}
 use Rattle.vub_driver.proofs.Flat.{bytes_sub, region_in}
 use Rattle.vub_driver.proofs.Fitting.{place_below, pair_fits}
 use Rattle.vub_driver.proofs.Kept.{index_small, word_is}
 use Rattle.vub_driver.proofs.Writes.{length-chain_bytes}
-use Rattle.vub_model.specs.declared.setup.Guest.{Guest}
 use Rattle.vub_model.specs.declared.setup.Guest.TheVariants.{Store}
 use Rattle.vub_model.specs.Headline.{IsSpot, ChangesOnly}
 use Rattle.vub_model.specs.World.{World, stored}
 use Rattle.vub_laws.specs.Alone.{store_spots}
 use Rattle.vub_laws.proofs.Stores.{guest-changes}
 use Rattle.vub_talk.specs.Asking.{region}
-use Rattle.vub_talk.specs.Ready.{InTable, InIndex, IsHarmless, IsReady, InBuffers}
+use Rattle.vub_talk.specs.Ready.{InTable, InIndex, IsHarmless, IsReady}
 use Rattle.vub_talk.proofs.Guarding.{InRange, Sits, one}
-use Rattle.vub_talk.proofs.Keeping.{Keeps, keeps, kept-number, kept-harmless, ready-kept}
+use Rattle.vub_talk.proofs.Keeping.{Keeps, keeps, kept-number, kept-harmless}
 
 -- Reading what was stored
 
@@ -83,8 +80,8 @@ read-stored g a bs flat long low high =
     let back : a - 1048576 + 1048576 ≡ a = omega arith in
     ap (λ x. bytes_at x a (length bs)) (stored-is g (a - 1048576) bs long (omega arith))
     ∙ read-list (store_at g 0 (a - 1048576) bs) a bs (λ k below.
-      let here : a + k ≡ a - 1048576 + 1048576 + k = omega arith in
-      ap (byte_at (store_at g 0 (a - 1048576) bs)) here ∙ byte-stored g (a - 1048576) k bs flat long (omega arith) below)
+    let here : a + k ≡ a - 1048576 + 1048576 + k = omega arith in
+    ap (byte_at (store_at g 0 (a - 1048576) bs)) here ∙ byte-stored g (a - 1048576) k bs flat long (omega arith) below)
 
 -- The bytes beside a store
 
@@ -139,13 +136,13 @@ module _ (l : Layout) (at : Sits l) (n : ℕ) (g h : memory.Guest) (was : IsRead
   pub other-kept : (a len : ℕ) → Keeps (Beside a len) g h → ((x : ℕ) → a ≤ x → x < a + len → (InTable l x ⊎ InIndex l x) → ⊥) → IsReady l n h
   other-kept a len kept off =
       let beside : (x : ℕ) → InTable l x ⊎ InIndex l x → Beside a len x = λ x guarded.
-          elim (cases_lt x a) [
-            | inl less ↦ inl less
-            | inr high ↦ elim (cases_lt x (a + len)) [
-              | inl inside ↦ absurd (off x (omega (arith, high)) inside guarded)
-              | inr past ↦ inr (omega (arith, past))
-            ]
-          ] in
+      elim (cases_lt x a) [
+        | inl less ↦ inl less
+        | inr high ↦ elim (cases_lt x (a + len)) [
+          | inl inside ↦ absurd (off x (omega (arith, high)) inside guarded)
+          | inr past ↦ inr (omega (arith, past))
+        ]
+      ] in
       record {
         one = kept.flat;
         long = long ∙ was.long;

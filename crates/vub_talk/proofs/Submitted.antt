@@ -1,9 +1,9 @@
 -- A submit leaves memory ready for one request more.
-use Rattle.std.proofs.Common.{◌≡◌, ◌⊎◌, ℕ, ◌+◌, ◌-◌, ◌*◌, ◌%◌, ◌^◌, ◌<◌, ◌≤◌, inl, inr, false, List, [], ◌∷◌, length, sym, ap, subst, ◌∙◌, arith}
+use Rattle.std.proofs.Common.{◌≡◌, ℕ, ◌+◌, ◌<◌, ◌≤◌, inl, inr, false, List, [], ◌∷◌, length, sym, ap, subst, ◌∙◌, arith}
 use Rattle.std.specs.Int.{w16, to_le_bytes}
 use Rattle.vub_mem.specs.Laws.{IsElsewhere}
 use Rattle.vub_mem.specs.Memory.{Guest}
-use Rattle.vub_mem.specs.Place.{bytes_at, content_of, write_at}
+use Rattle.vub_mem.specs.Place.{bytes_at, write_at}
 use Rattle.vub_mem.proofs.Frames.{regions-write_at, length-write_at, write_apart}
 use Rattle.vub_driver.specs.Calls.{chain_bytes, index_of, submit_guest}
 use Rattle.vub_driver.specs.Places.{half_of, place_of, head_of, request_at, descriptors_at, avail_slot_at, avail_index_at}
@@ -11,11 +11,11 @@ use Rattle.vub_driver.specs.declared.layout.Layout.{Layout}
 use Rattle.vub_driver.proofs.Flat.{IsFlat, bytes_back}
 use Rattle.vub_driver.proofs.Fitting.{place_below}
 use Rattle.vub_driver.proofs.Writes.{length-chain_bytes}
-use Rattle.vub_model.specs.Headline.{IsSpot, ChangesOnly}
+use Rattle.vub_model.specs.Headline.{ChangesOnly}
 use Rattle.vub_model.specs.Written.{spots_of}
 use Rattle.vub_talk.specs.Asking.{is_large, region}
 use Rattle.vub_talk.specs.declared.ask.Ask.{Ask}
-use Rattle.vub_talk.specs.Ready.{InTable, InIndex, IsLaid, IsReady}
+use Rattle.vub_talk.specs.Ready.{IsLaid, IsReady}
 use Rattle.vub_talk.proofs.Accepting.{request_fits}
 use Rattle.vub_talk.proofs.Acting.{RoomFits, room_fits, request-off, slot-off}
 use Rattle.vub_talk.proofs.Guarding.{Sits, sits, spot-back, spot-here}

@@ -97,7 +97,7 @@ pub(crate) fn zero_memory(alloc: Global) -> Result<GuestMemory<()>, OutOfMemory>
 /// Stores bytes that a run wrote.
 #[tactic(auto, using(crate::proofs::Asked::store_length), unfolding(vub_model::specs::World::stored))]
 fn store_span(memory: &mut GuestMemory<()>, span: &Span)
-    ensures stored { memory.new.guest ≡ stored memory.old.guest 0 span.now.offset span.now.bytes }
+    ensures guest { memory.new.guest ≡ stored memory.old.guest 0 span.now.offset span.now.bytes }
     ensures bytes { length (content_of memory.new.guest.contents 0)
         ≡ length (content_of memory.old.guest.contents 0) }
     ensures regions { memory.new.guest.regions ≡ memory.old.guest.regions }

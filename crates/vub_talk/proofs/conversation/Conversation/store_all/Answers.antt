@@ -1,8 +1,8 @@
-use Rattle.std.proofs.Common.{◌≡◌, ℕ, List, sym, subst, ◌∙◌}
+use Rattle.std.proofs.Common.{sym, subst, ◌∙◌}
 use Rattle.vub_mem.specs.Memory.{Guest}
 use Rattle.vub_model.specs.declared.records.Span.{Span}
 use Rattle.vub_talk.specs.Ready.{IsOff, IsReady}
-use Rattle.vub_talk.proofs.Spanned.{off_at, span_ready}
+use Rattle.vub_talk.proofs.Spans.{off_at, span_ready}
 use Rattle.vub_talk.proofs.conversation.Conversation.store_all.Goals as goal
 
 pub loop-span-preserved : goal.loop-span-preserved
@@ -16,7 +16,7 @@ loop-span-preserved c =
       ready = λ k n laid off was.
           let R : Guest → Type 0 = λ x. IsReady k n x in
           let O : Span → Type 0 = λ x. IsOff k x in
-          subst R (sym its.stored)
+          subst R (sym its.guest)
           (span_ready k n c.loop-span.self.memory.guest s laid (subst O (sym c.span-item.is) (off_at k c.args.spans.now c.loop-span.span-index s off c.loop-span-test.true)) (so.ready k n laid off was));
       driver = so.driver;
     }

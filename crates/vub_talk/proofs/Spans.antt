@@ -1,6 +1,5 @@
 -- A span that has no guarded byte leaves memory ready.
-use Rattle.std.proofs.Common.{◌≡◌, ℕ, zero, suc, ◌+◌, ◌-◌, ◌<◌, List, [], ◌∷◌, length, get_or, false, refl, sym, subst, arith}
-use Rattle.std.specs.List.{AllByRecursion}
+use Rattle.std.proofs.Common.{◌≡◌, ℕ, zero, suc, ◌+◌, ◌-◌, ◌<◌, List, [], ◌∷◌, length, get_or, false, subst, arith}
 use Rattle.vub_mem.specs.Memory as memory
 use Rattle.vub_driver.specs.declared.layout.Layout.{Layout}
 use Rattle.vub_proto.specs.declared.answer.Answer.TheVariants as answer

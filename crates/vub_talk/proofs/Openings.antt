@@ -3,11 +3,10 @@ use Rattle.std.proofs.Common.{◌≡◌, ◌≢◌, ◌⊎◌, ℕ, zero, suc, �
 use Rattle.std.specs.Int.{Width, w16, w32, w64, byte_len, from_le_bytes}
 use Rattle.std.specs.Prelude.{sum_by}
 use Rattle.std.specs.List.{range_with_len}
-use Rattle.std.proofs.lemmas.Bool.{cases_Bool, cases_eq, cond_both, ne_eqb}
+use Rattle.std.proofs.lemmas.Bool.{cases_eq, cond_both, ne_eqb}
 use Rattle.std.proofs.lemmas.List.Sums.{sum_by-cons}
 use Rattle.vub_mem.specs.Memory as memory
-use Rattle.vub_mem.specs.declared.region.Region.{Region}
-use Rattle.vub_mem.specs.Place.{byte_at, byte_in, bytes_at, content_of, covers, holds, number_at, region_of}
+use Rattle.vub_mem.specs.Place.{byte_at, byte_in, content_of, covers, holds, number_at, region_of}
 use Rattle.vub_queue.specs.Chain.{descriptor_at}
 use Rattle.vub_queue.specs.EntryNumber.{minus}
 use Rattle.vub_queue.specs.declared.descriptor.Descriptor.{Descriptor}
@@ -20,24 +19,20 @@ use Rattle.vub_event.specs.declared.member.Member.{Member}
 use Rattle.vub_event.specs.InterestList.{member_of}
 use Rattle.vub_event.specs.HostTable.{HostTable, event_at, members_at}
 use Rattle.vub_model.specs.declared.constants.Constants.{Constants}
-use Rattle.vub_model.specs.declared.phase.Phase.{Phase}
 use Rattle.vub_model.specs.declared.phase.Phase.TheVariants.{Idle}
 use Rattle.vub_model.specs.declared.setup.GivenRing.{GivenRing}
 use Rattle.vub_model.specs.declared.setup.Object.{Object}
 use Rattle.vub_model.specs.declared.setup.Object.TheVariants as object
 use Rattle.vub_model.specs.declared.setup.Guest.TheVariants.{Signal}
-use Rattle.vub_model.specs.declared.setup.Setup.{Setup}
 use Rattle.vub_model.specs.declared.wiring.Place.{Place}
 use Rattle.vub_model.specs.Frame.{is_member}
 use Rattle.vub_model.specs.Opening.{opening, opening_rings, opening_table, ring_from, wiring_of, claimed, placed}
 use Rattle.vub_model.specs.RingRecord.{Vring, closed_ring, has_addresses}
 use Rattle.vub_model.specs.Shared.{Shared, ring_at, pending_at, count_of, with_number}
 use Rattle.vub_model.specs.Wiring.{Wiring, opened_at, place_of}
-use Rattle.vub_model.specs.World.{World}
-use Rattle.vub_laws.specs.Draining.{event_left, events_in, events_left, all_entries_left, is_kick_or_listener, is_place_of, measure, object_left, polled_off, work_left}
+use Rattle.vub_laws.specs.Draining.{event_left, events_in, events_left, all_entries_left, is_kick_or_listener, is_place_of, measure, object_left, work_left}
 use Rattle.vub_laws.specs.EntriesLeft.{entries_left}
 use Rattle.vub_laws.proofs.EventsLeft.{raised-events}
-use Rattle.vub_laws.proofs.Sums.{sum-le}
 use Rattle.vub_talk.specs.Asking.{AreSmall, region}
 use Rattle.vub_talk.specs.Batches.{asks_stored, batch_setup}
 use Rattle.vub_talk.specs.Ready.{IsHarmless, IsReady}
@@ -45,7 +40,7 @@ use Rattle.vub_talk.specs.declared.ask.Ask.{Ask}
 use Rattle.vub_talk.proofs.Acting.{batch-acts}
 use Rattle.vub_talk.proofs.Guarding.{Sits, one}
 use Rattle.vub_talk.proofs.Standing.{Stands, entries-none, entries-word, measure-one}
-use Rattle.vub_talk.proofs.Working.{RingsFit, addresses_in}
+use Rattle.vub_talk.proofs.Leaving.{RingsFit, addresses_in}
 
 -- Memory of the same bytes is ready
 

@@ -1,20 +1,17 @@
 -- A worker's step leaves guest memory ready, and the rings as they are laid out.
-use Rattle.std.proofs.Common.{◌≡◌, ◌≢◌, ◌⊎◌, ℕ, ◌+◌, ◌*◌, ◌%◌, ◌<◌, ◌≤◌, inl, inr, Bool, true, false, true≢false, cond, ◌&&◌, not, Option, Some, None, is_some, List, [], ◌∷◌, Result, Ok, Err, refl, sym, ap, subst, ◌∙◌, arith}
-use Rattle.std.specs.List.{AllByRecursion}
+use Rattle.std.proofs.Common.{◌≡◌, ◌≢◌, ℕ, ◌+◌, ◌%◌, ◌<◌, inl, inr, Bool, true, false, true≢false, cond, ◌&&◌, not, Some, List, [], ◌∷◌, Result, Ok, Err, refl, sym, ap, subst, ◌∙◌, arith}
 use Rattle.std.proofs.lemmas.Bool.{cond_both, cases_eq}
 use Rattle.vub_queue.specs.declared.addresses.Addresses.{Addresses}
-use Rattle.vub_queue.specs.declared.chain.Chain.{Chain}
 use Rattle.vub_queue.specs.declared.putting.PutFault.{PutFault}
 use Rattle.vub_queue.specs.declared.putting.PutFault.TheVariants as put_fault
 use Rattle.vub_queue.specs.declared.took.Took.{Took}
 use Rattle.vub_queue.specs.declared.took.Took.TheVariants as took
 use Rattle.vub_queue.specs.Layout.{at_of, avail_event_at, table_of}
-use Rattle.vub_queue.specs.Ring.{Ring}
 use Rattle.vub_driver.specs.declared.layout.Layout.{Layout}
 use Rattle.vub_mem.specs.declared.region.Region.{Region}
 use Rattle.vub_model.specs.declared.entry.Entry.{Entry}
 use Rattle.vub_model.specs.declared.phase.Phase.{Phase}
-use Rattle.vub_model.specs.declared.phase.Phase.TheVariants.{Idle, Polled, Sweep, Heard, Serving, Taken, Served, Stopped}
+use Rattle.vub_model.specs.declared.phase.Phase.TheVariants.{Serving, Taken, Served}
 use Rattle.vub_model.specs.declared.play.Play.{Play}
 use Rattle.vub_model.specs.declared.play.Play.TheVariants as play
 use Rattle.vub_model.specs.declared.ring_op.RingOp.{RingOp}
@@ -24,7 +21,7 @@ use Rattle.vub_model.specs.RingRecord.{Vring, has_addresses, changed, ring_after
 use Rattle.vub_model.specs.Service.{Meaning}
 use Rattle.vub_model.specs.Shared.{Shared, ring_at}
 use Rattle.vub_model.specs.Wiring.{Wiring}
-use Rattle.vub_model.specs.Work.{MayWork, after_work, after_said, after_took, answer_put, called, used, may_take, looked, put_said, serving}
+use Rattle.vub_model.specs.Work.{MayWork, after_work, after_said, answer_put, used, may_take, looked, put_said, serving}
 use Rattle.vub_model.specs.World.{written_by, if_used}
 use Rattle.vub_model.specs.Written.{put_spots, spots_of, take_spots}
 use Rattle.vub_model.proofs.Cases.{work-cases, heard-leaf, take-leaf, none-leaf, event-shared, event-phase, said-cases}
@@ -35,7 +32,7 @@ use Rattle.vub_model.proofs.Waking.{called-ring}
 use Rattle.vub_laws.proofs.EntriesLeft.{took-here}
 use Rattle.vub_talk.specs.Ready.{IsGuarded, IsReady}
 use Rattle.vub_talk.proofs.Chained.{taken-in}
-use Rattle.vub_talk.proofs.Guarding.{AreInBuffers, HasUsed, Sits, one, put-off}
+use Rattle.vub_talk.proofs.Guarding.{AreInBuffers, HasUsed, Sits, put-off}
 use Rattle.vub_talk.proofs.Keeping.{ready-kept}
 
 -- Rings
