@@ -19,3 +19,17 @@ pub mod Safe
 pub mod Began
 pub mod Spans
 pub mod Blank
+pub mod Storing
+pub mod Ahead
+pub mod Gathering
+pub mod Turning
+pub mod Working
+pub mod Playing
+pub mod Untouched
+pub mod Spanned
+pub mod Opened
+pub mod Beginning
+pub mod Ending
+pub mod Batched
+pub mod Pushed
+pub mod Started

@@ -4,7 +4,7 @@ use Rattle.std.specs.List.{AllByRecursion, list_all, list_any, position, positio
 use Rattle.std.specs.Option.{option_flatten, is_some}
 use Rattle.std.specs.Prelude.{slice_get, option_map}
 use Rattle.std.specs.Int.{is_power_of_two, w16, to_le_bytes}
-use Rattle.std.proofs.lemmas.Bool.{and_parts, or_parts, eqb-false, le-leb, le-ltb, leb-true, ltb-false, lt-ltb}
+use Rattle.std.proofs.lemmas.Bool.{and_parts, or_parts, le-leb, le-ltb, leb-true, ltb-false, lt-ltb, eqb-false}
 use Rattle.std.proofs.lemmas.List.{take_all, length_push}
 use Rattle.vub_mem.specs.Table.{table_fault, region_fault as one_region_fault, pairs_fault}
 use Rattle.vub_model.specs.declared.constants.Constants.{Constants}
@@ -105,6 +105,9 @@ takes k l h = (let p = passed (ltb 64 k.queues) (ltb 64 (length k.masks)) (is_gr
 
 pub few_masks : (k : Constants) (l : Layout) → setup_refused k l ≡ None → length k.masks ≤ 64
 few_masks k l h = ltb-false 64 (length k.masks) (takes k l h).workers
+
+pub some_queues : (k : Constants) (l : Layout) → setup_refused k l ≡ None → 0 < k.queues
+some_queues k l h = (let some : eqb k.queues 0 ≡ false = (takes k l h).some in let no : k.queues ≡ 0 → ⊥ = eqb-false k.queues 0 some in omega (arith, no))
 
 abbrev objects_of : List ℕ → List Object
 objects_of content = object.Content content ∷ object.Event 0 ∷ object.Event 0 ∷ []
@@ -260,7 +263,3 @@ unfolding fault_of batch_setup
 valid k l n content asks taken size aligned lies device long small few =
     let t = takes k l device in
     rw (device-valid k l t content, region-valid content, table-valid content long, ring-valid k l t content n size aligned, requests-valid (constants_in (fixed k)) content, guest-valid l content n asks (fit_taken l taken) (within l lies) long small few, logs-valid content) refl
-
--- the device has a queue
-pub some_queues : (k : Constants) (l : Layout) → setup_refused k l ≡ None → 0 < k.queues
-some_queues k l h = (let some = (takes k l h).some in let no : k.queues ≡ 0 → ⊥ = λ zero. eqb-false k.queues 0 some zero in grind arith)

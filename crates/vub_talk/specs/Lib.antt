@@ -5,4 +5,7 @@ pub mod Faults
 pub mod Late
 pub mod Machine
 pub mod Ready
+pub mod Replies
 pub mod Talked
+pub mod Talking
+pub mod Talks

@@ -1,5 +1,7 @@
 //! One batch of a conversation.
-ghost use Rattle.std.specs.Prelude.{◌≡◌, ◌<◌, ◌+◌, ◌++◌, ◌∷◌, [], length, None, IfOk, IfErr, OnOk};
+ghost use Rattle.std.specs.Prelude.{◌≡◌, ◌+◌, ◌<◌, ◌++◌, ◌∷◌, [], length, map, None, List, IfOk, IfErr, OnOk};
+ghost use Rattle.vub_core.specs.Meanings.{meaning_by};
+ghost use Rattle.vub_driver.specs.Machine.{Asked};
 ghost use Rattle.vub_mem.specs.Place.{content_of};
 ghost use Rattle.vub_model.specs.ValidSetup.{fault_of};
 ghost use Rattle.vub_talk.specs.Ample.{IsAmple, IsBatch, IsRestless};
@@ -7,6 +9,9 @@ ghost use Rattle.vub_talk.specs.Asking.{AreSmall, HasMoved, MaySubmit, NumbersOn
 ghost use Rattle.vub_talk.specs.Late.{IsLate};
 ghost use Rattle.vub_talk.specs.Machine.{constants_in, fixed, setup_for};
 ghost use Rattle.vub_talk.specs.Ready.{AreOff, IsLaid, IsReady};
+ghost use Rattle.vub_talk.specs.Replies.{asked_by};
+ghost use Rattle.vub_talk.specs.Talking.{HasRun};
+ghost use Rattle.vub_talk.specs.Talks.{IsSlow, Talks};
 
 use crate::ask::Ask;
 use crate::constants::{CALL, MEMORY};
@@ -57,6 +62,9 @@ fn play<V: Service>(
         IsAmple (constants_in device.old) setup.now schedule.now → IsRestless e → ⊥) }
     ensures off { IfOk result (λ run. (b : IsBatch (constants_in device.old) setup.now) →
         AreOff b.layout run.written) }
+    ensures run { IfOk result
+        (HasRun (meaning_by V.Service) (constants_in device.old) setup.now service.old service.new) }
+    ensures slow { IfErr result IsSlow }
 {
     match drive(alloc, setup, device, service, schedule) {
         Ok(run) => {
@@ -114,6 +122,14 @@ pub(crate) fn talk_batch<V: Service>(
         talk.old.answers talk.new.answers) }
     ensures calls { OnOk result (length talk.new.calls ≡ length talk.old.calls + 1) }
     ensures only { IfErr result IsLate }
+    ensures talks { OnOk result ((v : V) → (asked : List Asked) →
+        Talks (meaning_by V.Service) v asked conversation.old.driver conversation.old.memory.guest talk.old.answers
+        service.old →
+        Talks (meaning_by V.Service) v (asked ++ map (λ a. asked_by a) asks.now) conversation.new.driver
+        conversation.new.memory.guest talk.new.answers service.new) }
+    ensures trusted { IfErr result (λ e. (v : V) → (asked : List Asked) →
+        Talks (meaning_by V.Service) v asked conversation.old.driver conversation.old.memory.guest talk.old.answers
+        service.old → IsSlow e) }
 {
     let setup = conversation.submit_all(alloc, layout, asks)?;
     let mut device = device_of(alloc, constants)?;

@@ -11,6 +11,8 @@ ghost use Rattle.vub_talk.specs.Batches.{asks_stored, batch_setup, stores_of};
 ghost use Rattle.vub_talk.specs.Late.{refusal_of, IsLate};
 ghost use Rattle.vub_talk.specs.Ready.{AreOff, IsLaid, IsReady};
 ghost use Rattle.vub_model.specs.World.{stored};
+ghost use Rattle.vub_talk.specs.Talking.{guest_asked, spans_stored, state_asked, Collects};
+ghost use Rattle.vub_talk.specs.Talks.{IsSlow, IsTrusted};
 
 use crate::ask::Ask;
 use crate::constants::{MEMORY, MEMORY_LEN, MEMORY_START};
@@ -128,8 +130,8 @@ impl Conversation {
         ensures regions { OnOk result (self.new.memory.guest.regions ≡ self.old.memory.guest.regions) }
         ensures bytes { OnOk result (length (content_of self.new.memory.guest.contents 0)
             ≡ length (content_of self.old.memory.guest.contents 0)) }
-        ensures memory { OnOk result (self.new.memory.guest ≡ submit_guest self.old.driver.layout
-            self.old.memory.guest self.old.driver.submitted ask.now.request ask.now.room) }
+        ensures memory { OnOk result (self.new.memory.guest ≡ submit_guest self.old.driver.layout self.old.memory.guest
+            self.old.driver.submitted ask.now.request ask.now.room) }
         ensures only { IfErr result (λ e. e ≡ TalkFault.OutOfMemory) }
     {
         let request = ask.request.as_slice();
@@ -165,6 +167,9 @@ impl Conversation {
         ensures setup { IfOk result (λ setup. setup ≡ batch_setup layout.now self.old.driver.submitted
             (content_of self.old.memory.guest.contents 0)
             (asks_stored layout.now self.old.driver.submitted asks.now ++ Signal 1 ∷ [])) }
+        ensures state { OnOk result (self.new.driver ≡ state_asked self.old.driver asks.now) }
+        ensures memory { OnOk result (self.new.memory.guest
+            ≡ guest_asked layout.now self.old.memory.guest self.old.driver.submitted asks.now) }
         ensures only { IfErr result (λ e. e ≡ TalkFault.OutOfMemory) }
     {
         let number = self.driver.submitted();
@@ -186,6 +191,7 @@ impl Conversation {
         ensures driver { self.new.driver ≡ self.old.driver }
         ensures ready { (l : Layout) (n : ℕ) → IsLaid l → AreOff l spans.now →
             IsReady l n self.old.memory.guest → IsReady l n self.new.memory.guest }
+        ensures guest { self.new.memory.guest ≡ spans_stored self.old.memory.guest spans.now }
     {
         for span in spans {
             store_span(&mut self.memory, span);
@@ -204,6 +210,9 @@ impl Conversation {
     ) -> Result<(), TalkFault>
         ensures driver { OnOk result (HasMoved 0 1 self.old.driver self.new.driver) }
         ensures answers { OnOk result (NumbersOn self.old.driver.collected 1 answers.old answers.new) }
+        ensures replies { OnOk result
+            (Collects 1 self.old.driver self.old.memory.guest answers.old self.new.driver answers.new) }
+        ensures trusted { IfErr result (λ e. IsTrusted self.old.driver self.old.memory.guest → IsSlow e) }
         ensures memory { self.new.memory ≡ self.old.memory }
         ensures only { IfErr result IsLate }
     {
@@ -230,6 +239,9 @@ impl Conversation {
     ) -> Result<(), TalkFault>
         ensures driver { OnOk result (HasMoved 0 count self.old.driver self.new.driver) }
         ensures answers { OnOk result (NumbersOn self.old.driver.collected count answers.old answers.new) }
+        ensures replies { OnOk result
+            (Collects count self.old.driver self.old.memory.guest answers.old self.new.driver answers.new) }
+        ensures trusted { IfErr result (λ e. IsTrusted self.old.driver self.old.memory.guest → IsSlow e) }
         ensures memory { self.new.memory ≡ self.old.memory }
         ensures only { IfErr result IsLate }
     {

@@ -2,13 +2,15 @@
 ghost use Rattle.std.specs.Prelude.{◌≡◌, ◌⊎◌, ◌+◌, ◌*◌, ◌<◌, ◌≤◌, false, None, Some, length, map};
 ghost use Rattle.std.specs.Prelude.{IfOk, IfErr, IfSome, OnErr};
 ghost use Rattle.std.specs.List.{range_with_len};
+ghost use Rattle.vub_core.specs.Meanings.{meaning_by};
 ghost use Rattle.vub_driver.specs.Calls.{new_state};
 ghost use Rattle.vub_driver.specs.Layouts.{new_fault};
 ghost use Rattle.vub_driver.specs.Places.{half_of};
 ghost use Rattle.vub_open.specs.Asked.{constants_by};
 ghost use Rattle.vub_talk.specs.Faults.{asks_fault, setup_fault, talk_fault};
 ghost use Rattle.vub_talk.specs.Late.{IsLate};
-ghost use Rattle.vub_talk.specs.Talked.{IsWhole};
+ghost use Rattle.vub_talk.specs.Talked.{IsAnswered, IsWhole};
+ghost use Rattle.vub_talk.specs.Talks.{IsSlow};
 
 use crate::ask::Ask;
 use crate::batch::talk_batch;
@@ -49,6 +51,9 @@ fn talk_with<V: Service>(
     requires device { setup_fault constants.now layout.now ≡ None }
     ensures whole { IfOk result (IsWhole layout.now asks.now) }
     ensures only { IfErr result IsLate }
+    ensures answered { IfOk result (λ t. 0 < layout.now.slot →
+        IsAnswered (meaning_by V.Service) service.old service.new asks.now t) }
+    ensures slow { IfErr result (λ e. 0 < layout.now.slot → IsSlow e) }
 {
     let parties = 2 + constants.masks.len() as u32;
     let schedule = schedule_of(alloc, rounds, parties)?;
@@ -89,13 +94,14 @@ fn talk_with<V: Service>(
 /// its two descriptors, its slot, the index) and signals the kick behind the last one. Each party has a turn in each of
 /// so many rounds. The device is asked for its constants once, and for nothing else.
 ///
-/// The answers are numbered as the asks, one for each, and there is a count of the call for each batch. What the
-/// replies are is tested, and not proved.
+/// The answers are numbered as the asks, one for each, and there is a count of the call for each batch. Where the slot
+/// of the layout is above 0, the k-th answer is the reply of the service after k calls to the bytes and the room of
+/// the k-th ask.
 ///
 /// # Errors
 /// The first test of [`TalkFault`] that fails, up to `Setup`, and then the service was not asked. Then `NotAtRest`: the
-/// rounds of this batch were too few; or `Driver` with what a driver may find wrong in a used ring, of which it is not
-/// proved that it never comes. Want of memory may come at any place.
+/// rounds of this batch were too few. What a driver may find wrong in a used ring never comes, where the slot is above
+/// 0. Want of memory may come at any place.
 #[tactic(auto, using(crate::proofs::Batching::device_none))]
 pub fn converse<D: VhostUserBackendMut, V: Service>(
     alloc: Global,
@@ -115,6 +121,11 @@ pub fn converse<D: VhostUserBackendMut, V: Service>(
         (talk_fault (constants_by D.VhostUserBackendMut D.Bitmap.TRACKS device.now) layout asks.now)
         (λ e. service.new ≡ service.old) }
     ensures whole { IfOk result (IsWhole layout asks.now) }
+    ensures answered { IfOk result (λ t. 0 < layout.slot →
+        IsAnswered (meaning_by V.Service) service.old service.new asks.now t) }
+    ensures slow { IfErr result (λ e. 0 < layout.slot →
+        (talk_fault (constants_by D.VhostUserBackendMut D.Bitmap.TRACKS device.now) layout asks.now ≡ Some e)
+        ⊎ IsSlow e) }
 {
     let driver = driver_of(alloc, layout)?;
     if let Some(fault) = asks_fault(&layout, asks) {

@@ -1,4 +1,4 @@
-use Rattle.std.proofs.Common.{rules, ◌≡◌, ◌⊎◌, inl, inr, ℕ, ◌+◌, ◌-◌, ◌*◌, ◌^◌, ◌<◌, ◌≤◌, List, [], ◌∷◌, ◌++◌, length, map, take, drop, None, sym, ap, ap₂, subst, ◌∙◌, arith}
+use Rattle.std.proofs.Common.{rules, ◌≡◌, ◌⊎◌, inl, inr, ℕ, ◌+◌, ◌-◌, ◌*◌, ◌^◌, ◌<◌, ◌≤◌, List, [], ◌∷◌, ◌++◌, false, length, map, take, drop, None, sym, ap, ap₂, subst, ◌∙◌, arith}
 use Rattle.std.specs.List.{range_with_len}
 use Rattle.vub_mem.specs.Memory.{Guest}
 use Rattle.vub_mem.specs.Place.{content_of}
@@ -9,10 +9,19 @@ use Rattle.vub_driver.specs.View.{IsFit}
 use Rattle.vub_driver.specs.declared.done.Done.{Done}
 use Rattle.vub_driver.specs.declared.layout.Layout.{Layout}
 use Rattle.vub_talk.specs.declared.ask.Ask.{Ask}
-use Rattle.vub_talk.specs.Asking.{AreSmall, Covers, region}
+use Rattle.vub_talk.specs.Asking.{AreSmall, Covers, blank, region}
 use Rattle.vub_talk.specs.Ready.{IsReady}
 use Rattle.vub_talk.specs.Batches.{asks_stored, batch_setup}
 use Rattle.vub_talk.specs.Machine.{constants_in, fixed}
+use Rattle.vub_core.specs.Meanings.{meaning_by}
+use Rattle.vub_driver.specs.Calls.{new_state}
+use Rattle.vub_driver.specs.Machine.{Asked}
+use Rattle.vub_driver.specs.State.{State}
+use Rattle.vub_talk.specs.Replies.{asked_by}
+use Rattle.vub_talk.specs.Talks.{IsSlow, Talks}
+use Rattle.vub_talk.specs.declared.fault.TalkFault.{TalkFault}
+use Rattle.vub_talk.proofs.Pushed.{err_by}
+use Rattle.vub_talk.proofs.Started.{asked_more, talks_none}
 use Rattle.vub_talk.proofs.Asked.{range-more}
 use Rattle.vub_talk.proofs.Batching.{size_taken, aligned_taken, small_asks, lies_asks, covers_layout, small-drop, small-take, part-length, length-zeros}
 use Rattle.vub_talk.proofs.Refusing.{fit_taken}
@@ -42,6 +51,14 @@ loop-done-init g c =
       numbers = ap (map (λ (d : Done). d.number)) c.new.ensures;
       calls = ap length c.new-2.ensures;
       within = omega arith;
+      talks = λ some.
+          let m = meaning_by g.V.Service in
+          let v = c.args.service.now in
+          let T : State → Guest → List Done → Type 0 = λ s memory answers. Talks (meaning_by g.V.Service) c.args.service.now [] s memory answers c.args.service.now in
+          subst (λ x. T x c.in_ok-memory.memory.guest c.new.result) (sym c.requires.driver)
+          (subst (λ x. T (new_state c.args.layout.now false) x c.new.result) (sym c.in_ok-memory.ensures)
+          (subst (T (new_state c.args.layout.now false) blank) (sym c.new.ensures)
+          (talks_none m v c.args.layout.now some c.requires.layout (lies_asks c.args.layout.now c.args.asks.now c.requires.asks))));
       reached = omega arith;
       close = omega (arith, some);
       whole = λ more. omega arith;
@@ -141,7 +158,20 @@ loop-done-preserved g c =
           ∙ sym (range-more 0 i k);
       calls = its.calls ∙ ap (λ n. n + 1) so.calls;
       within = omega (arith, left, below);
+      talks = λ some.
+          let v = c.args.service.now in
+          let new = its.talks v (map (λ a. asked_by a) (take i asks)) (so.talks some) in
+          let T : List Asked → Type 0 = λ q. Talks (meaning_by g.V.Service) c.args.service.now q c.talk_batch.new.conversation.driver c.talk_batch.new.conversation.memory.guest c.talk_batch.new.talk.answers c.talk_batch.new.service in
+          let one : i + k - i ≡ k = omega arith in
+          subst T (ap (λ n. map (λ a. asked_by a) (take i asks) ++ map (λ a. asked_by a) (take n (drop i asks))) one ∙ asked_more asks i k) new;
       reached = omega (arith, here, most);
       close = omega (arith, here, more);
       whole = λ rest. elim cases as (λ _. i + k ≡ (c.loop-done.batch + 1) * half_of l) [ inl full ↦ omega (arith, full, here) | inr last ↦ absurd (omega (arith, last, rest, below)) ];
     }
+
+pub returns-in_err-talk_batch-clause-slow : goal.returns-in_err-talk_batch-clause-slow
+returns-in_err-talk_batch-clause-slow g c =
+    let so = c.loop-done.invariant in
+    let P : TalkFault → Type 0 = λ e. 0 < c.args.layout.now.slot → IsSlow e in
+    err_by c.from_residual-in_err-talk_batch.result c.in_err-talk_batch.field-0.0 P c.from_residual-in_err-talk_batch.ensures.1
+    (λ some. c.in_err-talk_batch.ensures.trusted c.args.service.now (map (λ a. asked_by a) (take c.loop-done.done c.args.asks.now)) (so.talks some))

@@ -4,6 +4,9 @@ use Rattle.vub_driver.specs.declared.done.Done.{Done}
 use Rattle.vub_driver.specs.declared.error.DriverError.{DriverError}
 use Rattle.vub_driver.specs.declared.error.DriverError.TheVariants.{OutOfMemory}
 use Rattle.vub_talk.specs.Late.{IsLate, refusal_of}
+use Rattle.vub_talk.specs.Talks.{IsSlow}
+use Rattle.vub_talk.proofs.Ending.{trusted}
+use Rattle.vub_talk.proofs.Pushed.{slow}
 use Rattle.vub_talk.proofs.Collected.{number_is, late_is, late}
 use Rattle.vub_talk.proofs.conversation.Conversation.collect.Goals as goal
 
@@ -31,4 +34,12 @@ returns-in-Err-clause-only c =
     subst IsLate (sym c.refusal.ensures) (elim c.collect.ensures.answer as (λ _. IsLate (refusal_of c.in-Err.fault)) [
       | inl is ↦ late_is s.driver s.memory.guest c.in-Err.fault (sym is ∙ c.in-Err.is)
       | inr none ↦ late OutOfMemory c.in-Err.fault (sym none ∙ c.in-Err.is) tt
+    ])
+
+pub returns-in-Err-clause-trusted : goal.returns-in-Err-clause-trusted
+returns-in-Err-clause-trusted c trust =
+    let s = c.args.self.now in
+    subst IsSlow (sym c.refusal.ensures) (elim c.collect.ensures.answer as (λ _. IsSlow (refusal_of c.in-Err.fault)) [
+      | inl is ↦ absurd (trusted s.driver s.memory.guest c.in-Err.fault trust.0 trust.1 trust.2 trust.3 (sym is ∙ c.in-Err.is))
+      | inr none ↦ slow c.in-Err.fault (sym none ∙ c.in-Err.is)
     ])

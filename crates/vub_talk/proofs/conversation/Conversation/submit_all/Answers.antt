@@ -1,4 +1,4 @@
-use Rattle.std.proofs.Common.{◌≡◌, ◌+◌, ◌<◌, ◌≤◌, false, List, [], ◌∷◌, ◌++◌, length, take, sym, ap, subst, ◌∙◌, arith}
+use Rattle.std.proofs.Common.{◌≡◌, ◌+◌, ◌<◌, ◌≤◌, false, List, [], ◌∷◌, ◌++◌, length, take, sym, ap, ap₂, subst, ◌∙◌, arith}
 use Rattle.std.proofs.lemmas.List.{take_more, length-take-le}
 use Rattle.vub_mem.specs.declared.region.Region.{Region}
 use Rattle.vub_driver.specs.Places.{half_of}
@@ -10,6 +10,9 @@ use Rattle.vub_talk.specs.Batches.{asks_stored, stores_of}
 use Rattle.vub_talk.proofs.Accepting.{accepted, each_small, request_short}
 use Rattle.vub_talk.proofs.Submitted.{submitted-ready}
 use Rattle.vub_talk.proofs.Asked.{asks_pushed, moved-more, moved-submit}
+use Rattle.vub_driver.specs.Calls.{state_submitted, submit_guest}
+use Rattle.vub_talk.specs.Talking.{guest_asked, state_asked}
+use Rattle.vub_talk.proofs.Pushed.{guest_pushed, state_pushed}
 use Rattle.vub_talk.proofs.conversation.Conversation.submit_all.Goals as goal
 
 pub submit-requires-clause-small : goal.submit-requires-clause-small
@@ -65,6 +68,13 @@ loop-ask-preserved c =
       bytes = its.bytes ∙ so.bytes;
       ready = submitted-ready l c.args.self.now.driver.submitted i s.layout s.submitted c.loop-ask.self.memory.guest c.submit.new.self.memory.guest a layout (omega (arith, so.driver.submitted))
           (ap (is_large l) c.ask-item.is ∙ each_small l asks i a c.requires.small below) c.requires.laid so.ready its.memory;
+      state = its.driver ∙ ap (λ x. state_submitted x a.room) so.state ∙ sym (state_pushed c.args.self.now.driver (take i asks) a) ∙ ap (state_asked c.args.self.now.driver) (sym taken);
+      memory =
+          its.memory
+          ∙ ap₂ (λ x k. submit_guest x c.loop-ask.self.memory.guest k a.request a.room) layout (so.driver.submitted ∙ ap (λ k. c.args.self.now.driver.submitted + k) (sym long))
+          ∙ ap (λ g. submit_guest l g (c.args.self.now.driver.submitted + length (take i asks)) a.request a.room) so.memory
+          ∙ sym (guest_pushed l c.args.self.now.memory.guest c.args.self.now.driver.submitted (take i asks) a)
+          ∙ ap (guest_asked l c.args.self.now.memory.guest c.args.self.now.driver.submitted) (sym taken);
       guest =
           its.guest
           ∙ ap (λ gs. gs ++ stores_of (writes_of s.layout s.submitted a.request a.room)) so.guest
