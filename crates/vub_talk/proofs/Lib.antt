@@ -33,3 +33,4 @@ pub mod Ending
 pub mod Batched
 pub mod Pushed
 pub mod Started
+pub mod Fewer

@@ -1,7 +1,8 @@
 -- Rounds that are enough for a batch.
-use Rattle.std.specs.Prelude.{◌≡◌, ℕ, ◌+◌, ◌*◌, ◌^◌, ◌<◌, ◌≤◌, List, [], ◌∷◌, ◌++◌, length}
+use Rattle.std.specs.Prelude.{◌≡◌, ℕ, ◌+◌, ◌*◌, ◌-◌, ◌^◌, ◌<◌, ◌≤◌, min, List, [], ◌∷◌, ◌++◌, length}
 use Rattle.vub_mem.specs.Memory.{Guest}
 use Rattle.vub_mem.specs.Place.{content_of}
+use Rattle.vub_driver.specs.Places.{half_of}
 use Rattle.vub_driver.specs.declared.layout.Layout.{Layout}
 use Rattle.vub_model.specs.declared.constants.Constants.{Constants}
 use Rattle.vub_model.specs.declared.setup.Guest.TheVariants.{Signal}
@@ -37,7 +38,21 @@ pub record IsAmple (k : Constants) (setup : Setup) (schedule : List ℕ) : Type 
   pub enough : 13 * length batch.asks + 26 ≤ rounds
   pub few : rounds < 2 ^ 32
 
--- a party still had a step
-abbrev pub IsRestless : TalkFault → Type 0
-IsRestless (fault.NotAtRest batch) = Unit {0}
-IsRestless e = ⊥
+-- where it is that a party still had a step, this is the batch, and for its asks there were fewer rounds
+abbrev pub IsFew : ℕ → ℕ → ℕ → TalkFault → Type 0
+IsFew asks batch rounds (fault.NotAtRest b) = (b ≡ batch) × (rounds < 13 * asks + 26)
+IsFew asks batch rounds e = Unit {0}
+
+-- how many asks a batch has
+abbrev pub batch_len : Layout → List Ask → ℕ → ℕ
+batch_len l asks batch = min (half_of l) (length asks - batch * half_of l)
+
+-- the rounds were fewer than thirteen for each ask of the batch, and 26
+abbrev pub AreFew : Layout → List Ask → ℕ → TalkFault → Type 0
+AreFew l asks rounds (fault.NotAtRest batch) = rounds < 13 * batch_len l asks batch + 26
+AreFew l asks rounds e = Unit {0}
+
+-- it is not that
+abbrev pub IsNoRest : TalkFault → Type 0
+IsNoRest (fault.NotAtRest batch) = ⊥
+IsNoRest e = Unit {0}

@@ -32,8 +32,8 @@ IsHarmless l d = is_writable d ≡ true → InBuffers l d.addr d.len
 abbrev pub IsTableHarmless : Layout → Guest → Type 0
 IsTableHarmless l g = (i : ℕ) → i < l.size → IsHarmless l (descriptor_at g (l.desc + 16 * i))
 
--- The one region, whose content has all its bytes; the available index is that of so many requests; and by no descriptor
--- the device writes anywhere but into the buffers.
+-- The one region, whose content has all its bytes; the available index is that of so many requests; and by no
+-- descriptor the device writes anywhere but into the buffers.
 pub record IsReady (l : Layout) (n : ℕ) (g : Guest) : Type 0 where
   pub one : g.regions ≡ region ∷ []
   pub long : length (content_of g.contents 0) ≡ 1048576

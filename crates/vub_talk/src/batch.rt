@@ -1,11 +1,12 @@
 //! One batch of a conversation.
-ghost use Rattle.std.specs.Prelude.{◌≡◌, ◌+◌, ◌<◌, ◌++◌, ◌∷◌, [], length, map, None, List, IfOk, IfErr, OnOk};
+ghost use Rattle.std.specs.Prelude.{ℕ, ◌≡◌, ◌+◌, ◌^◌, ◌<◌, ◌++◌, ◌∷◌, [], length, map, None, List, IfOk, IfErr, OnOk};
 ghost use Rattle.vub_core.specs.Meanings.{meaning_by};
 ghost use Rattle.vub_driver.specs.Machine.{Asked};
 ghost use Rattle.vub_mem.specs.Place.{content_of};
 ghost use Rattle.vub_model.specs.ValidSetup.{fault_of};
-ghost use Rattle.vub_talk.specs.Ample.{IsAmple, IsBatch, IsRestless};
+ghost use Rattle.vub_talk.specs.Ample.{IsBatch, IsFew};
 ghost use Rattle.vub_talk.specs.Asking.{AreSmall, HasMoved, MaySubmit, NumbersOn};
+ghost use Rattle.vub_talk.specs.Batches.{schedule_of};
 ghost use Rattle.vub_talk.specs.Late.{IsLate};
 ghost use Rattle.vub_talk.specs.Machine.{constants_in, fixed, setup_for};
 ghost use Rattle.vub_talk.specs.Ready.{AreOff, IsLaid, IsReady};
@@ -46,8 +47,7 @@ fn device_of(alloc: Global, constants: &Constants) -> Result<FixedDevice, OutOfM
 /// Plays the set-up of a batch to its rest.
 ///
 /// # Errors
-/// `NotAtRest`, but not where there are enough rounds; and want of memory.
-#[tactic(auto, using(crate::proofs::Rested::ample_rests, crate::proofs::Rested::batch_off))]
+/// `NotAtRest`, but not where one worker has rounds enough; and want of memory.
 fn play<V: Service>(
     alloc: Global,
     setup: &Setup,
@@ -58,8 +58,9 @@ fn play<V: Service>(
 ) -> Result<Run, TalkFault>
     requires { fault_of (constants_in device.old) setup.now ≡ None }
     ensures only { IfErr result IsLate }
-    ensures ample { IfErr result (λ e.
-        IsAmple (constants_in device.old) setup.now schedule.now → IsRestless e → ⊥) }
+    ensures few { IfErr result (λ e. (b : IsBatch (constants_in device.old) setup.now) →
+        length (constants_in device.old).masks ≡ 1 → (rounds : ℕ) → schedule.now ≡ schedule_of rounds 3 →
+        rounds < 2 ^ 32 → IsFew (length b.asks) batch rounds e) }
     ensures off { IfOk result (λ run. (b : IsBatch (constants_in device.old) setup.now) →
         AreOff b.layout run.written) }
     ensures run { IfOk result
@@ -122,6 +123,8 @@ pub(crate) fn talk_batch<V: Service>(
         talk.old.answers talk.new.answers) }
     ensures calls { OnOk result (length talk.new.calls ≡ length talk.old.calls + 1) }
     ensures only { IfErr result IsLate }
+    ensures few { IfErr result (λ e. length constants.now.masks ≡ 1 → (rounds : ℕ) →
+        schedule.now ≡ schedule_of rounds 3 → rounds < 2 ^ 32 → IsFew (length asks.now) batch rounds e) }
     ensures talks { OnOk result ((v : V) → (asked : List Asked) →
         Talks (meaning_by V.Service) v asked conversation.old.driver conversation.old.memory.guest talk.old.answers
         service.old →
@@ -135,7 +138,7 @@ pub(crate) fn talk_batch<V: Service>(
     let mut device = device_of(alloc, constants)?;
     let run = play(alloc, &setup, &mut device, service, schedule, batch)?;
     conversation.store_all(run.written.as_slice());
-    conversation.collect_all(alloc, asks.len(), &mut talk.answers, batch)?;
+    conversation.collect_all(alloc, asks.len(), &mut talk.answers)?;
     talk.calls.push(calls_in(run.counts.as_slice()))?;
     Ok(())
 }

@@ -1,11 +1,12 @@
 //! The guest's side of a conversation: its driver, and guest memory as it stands between two batches.
-ghost use Rattle.std.specs.Prelude.{ℕ, ◌≡◌, ◌⊎◌, ◌+◌, ◌-◌, ◌++◌, ◌∷◌, ◌<◌, ◌^◌, [], false, None, Some, length, option_map};
-ghost use Rattle.std.specs.Prelude.{IfOk, IfErr, IfSome, OnOk, OnErr};
+ghost use Rattle.std.specs.Prelude.{◌≡◌, ◌⊎◌, ◌+◌, ◌-◌, ◌++◌, ◌∷◌, ◌<◌, ◌^◌, [], false, None, Some, length, option_map};
+ghost use Rattle.std.specs.Prelude.{ℕ, IfOk, IfErr, IfSome, OnOk, OnErr};
 ghost use Rattle.vub_mem.specs.Place.{content_of};
 ghost use Rattle.vub_driver.specs.Calls.{new_state, state_submitted, submit_fault, submit_guest};
 ghost use Rattle.vub_driver.specs.Layouts.{new_fault};
 ghost use Rattle.vub_driver.specs.Writings.{writes_of};
 ghost use Rattle.vub_model.specs.declared.setup.Guest.TheVariants.{Signal};
+ghost use Rattle.vub_talk.specs.Ample.{IsNoRest};
 ghost use Rattle.vub_talk.specs.Asking.{blank, zeros, AreSmall, HasMoved, MaySubmit, NumbersOn};
 ghost use Rattle.vub_talk.specs.Batches.{asks_stored, batch_setup, stores_of};
 ghost use Rattle.vub_talk.specs.Late.{refusal_of, IsLate};
@@ -201,13 +202,10 @@ impl Conversation {
     /// Collects the reply to the oldest ask.
     ///
     /// # Errors
-    /// `NotAtRest` where it was not used; want of memory.
-    fn collect(
-        &mut self,
-        alloc: Global,
-        answers: &mut Listed<Done>,
-        batch: u64,
-    ) -> Result<(), TalkFault>
+    /// Want of memory, which stands too for an ask that was not used though the run is at rest: it is not proved that
+    /// there is none.
+    #[tactic(auto, using(crate::proofs::Fewer::refusal_rests))]
+    fn collect(&mut self, alloc: Global, answers: &mut Listed<Done>) -> Result<(), TalkFault>
         ensures driver { OnOk result (HasMoved 0 1 self.old.driver self.new.driver) }
         ensures answers { OnOk result (NumbersOn self.old.driver.collected 1 answers.old answers.new) }
         ensures replies { OnOk result
@@ -215,13 +213,14 @@ impl Conversation {
         ensures trusted { IfErr result (λ e. IsTrusted self.old.driver self.old.memory.guest → IsSlow e) }
         ensures memory { self.new.memory ≡ self.old.memory }
         ensures only { IfErr result IsLate }
+        ensures rests { IfErr result IsNoRest }
     {
         match self.driver.collect(alloc, &self.memory) {
             Ok(Some(done)) => {
                 answers.push(done)?;
                 Ok(())
             }
-            Ok(None) => Err(TalkFault::NotAtRest { batch }),
+            Ok(None) => Err(TalkFault::OutOfMemory),
             Err(fault) => Err(refusal(fault)),
         }
     }
@@ -229,13 +228,12 @@ impl Conversation {
     /// Collects the replies to so many asks.
     ///
     /// # Errors
-    /// `NotAtRest` where one was not used; want of memory.
+    /// Want of memory.
     pub(crate) fn collect_all(
         &mut self,
         alloc: Global,
         count: usize,
         answers: &mut Listed<Done>,
-        batch: u64,
     ) -> Result<(), TalkFault>
         ensures driver { OnOk result (HasMoved 0 count self.old.driver self.new.driver) }
         ensures answers { OnOk result (NumbersOn self.old.driver.collected count answers.old answers.new) }
@@ -244,9 +242,10 @@ impl Conversation {
         ensures trusted { IfErr result (λ e. IsTrusted self.old.driver self.old.memory.guest → IsSlow e) }
         ensures memory { self.new.memory ≡ self.old.memory }
         ensures only { IfErr result IsLate }
+        ensures rests { IfErr result IsNoRest }
     {
         for _ask in 0..count {
-            self.collect(alloc, answers, batch)?;
+            self.collect(alloc, answers)?;
         }
         Ok(())
     }
