@@ -1,11 +1,13 @@
 -- Where a party still had a step, there were too few rounds.
-use Rattle.std.proofs.Common.{◌≡◌, ℕ, ◌+◌, ◌-◌, ◌*◌, ◌^◌, ◌<◌, ◌≤◌, ◌⊎◌, inl, inr, true, false, true≢false, min, List, length, refl, sym, ap, ◌∙◌, arith}
+use Rattle.std.proofs.Common.{◌≡◌, ℕ, ◌+◌, ◌-◌, ◌*◌, ◌^◌, ◌<◌, ◌≤◌, ◌⊎◌, inl, inr, Bool, true, false, true≢false, not, cond, Option, Some, None, min, List, length, refl, sym, ap, subst, ◌∙◌, arith}
+use Rattle.std.specs.Prelude.{option_map}
 use Rattle.std.proofs.lemmas.Bool.{cases_lt}
 use Rattle.vub_driver.specs.Places.{half_of}
 use Rattle.vub_driver.specs.declared.error.DriverError.{DriverError}
 use Rattle.vub_driver.specs.declared.error.DriverError.TheVariants as driver
 use Rattle.vub_driver.specs.declared.layout.Layout.{Layout}
 use Rattle.vub_model.specs.declared.constants.Constants.{Constants}
+use Rattle.vub_model.specs.declared.run.SetupFault.{SetupFault}
 use Rattle.vub_model.specs.declared.run.Run.{Run}
 use Rattle.vub_model.specs.declared.setup.Setup.{Setup}
 use Rattle.vub_model.specs.DeviceCalls.{Telling}
@@ -14,6 +16,7 @@ use Rattle.vub_core.specs.DeviceRun.{DeviceState}
 use Rattle.vub_core.specs.Outcome.{IsPlayed}
 use Rattle.vub_talk.specs.Ample.{AreFew, IsBatch, IsFew, IsNoRest, batch_len}
 use Rattle.vub_talk.specs.Batches.{schedule_of}
+use Rattle.vub_talk.specs.Faults.{device_fault, has_worker, setup_fault}
 use Rattle.vub_talk.specs.Late.{refusal_of}
 use Rattle.vub_talk.specs.declared.ask.Ask.{Ask}
 use Rattle.vub_talk.specs.declared.fault.TalkFault.{TalkFault}
@@ -45,3 +48,13 @@ few_batch l asks count batch done rounds (fault.NotAtRest b) here most within fe
     let least : count ≤ min (half_of l) (length asks - b * half_of l) = omega (arith, most, within, same) in
     omega (arith, less, least)
 few_batch l asks count batch done rounds e here most within few = tt
+
+-- no test of the device is that
+device_by : (b : Bool) (o : Option SetupFault) (l : Layout) (asks : List Ask) (rounds : ℕ) (e : TalkFault) → cond b (Some fault.NoWorker) (option_map (λ f. fault.Setup f) o) ≡ Some e → AreFew l asks rounds e
+device_by true o l asks rounds e is = (let same : fault.NoWorker ≡ e = cc in subst (λ x. AreFew l asks rounds x) same tt)
+device_by false (Some f) l asks rounds e is = (let same : fault.Setup f ≡ e = cc in subst (λ x. AreFew l asks rounds x) same tt)
+device_by false None l asks rounds e is = absurd (let no : ⊥ = cc in no)
+
+pub device_few : (k : Constants) (l : Layout) (asks : List Ask) (rounds : ℕ) (e : TalkFault) → device_fault k l ≡ Some e → AreFew l asks rounds e
+unfolding device_fault
+device_few k l asks rounds e is = device_by (not (has_worker k)) (setup_fault k l) l asks rounds e is

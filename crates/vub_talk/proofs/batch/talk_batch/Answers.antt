@@ -1,8 +1,10 @@
-use Rattle.std.proofs.Common.{◌+◌, ◌++◌, List, length, map, ℕ, ◌<◌, sym, ap, subst, ◌∙◌, arith}
+use Rattle.std.proofs.Common.{◌≡◌, ◌+◌, ◌++◌, List, length, map, ℕ, ◌<◌, sym, ap, subst, ◌∙◌, arith}
 use Rattle.vub_mem.specs.Memory.{Guest}
 use Rattle.vub_proto.specs.declared.fixed.FixedDevice.{FixedDevice}
 use Rattle.vub_model.specs.declared.records.Span.{Span}
-use Rattle.vub_talk.specs.Ample.{IsBatch}
+use Rattle.vub_talk.specs.Ample.{IsBatch, IsFew}
+use Rattle.vub_talk.specs.Batches.{schedule_of}
+use Rattle.vub_talk.proofs.Fewer.{no_rest_few}
 use Rattle.vub_talk.specs.Ready.{AreOff, IsReady}
 use Rattle.vub_core.specs.Meanings.{meaning_by}
 use Rattle.vub_driver.specs.Machine.{Asked}
@@ -74,3 +76,28 @@ returns-clause-ready g c =
     let off = subst W (sym c.as_slice.ensures) (c.in_ok-run.ensures.off batch) in
     let R : Guest → Type 0 = λ x. IsReady c.args.layout.now (c.args.conversation.now.driver.submitted + length c.args.asks.now) x in
     subst R (sym (ap (λ m. m.guest) c.in_ok-collect_all.ensures.memory)) (c.store_all.ensures.ready c.args.layout.now n c.requires.laid off c.in_ok-setup.ensures.ready)
+
+pub returns-in_err-run-clause-few : goal.returns-in_err-run-clause-few
+returns-in_err-run-clause-few g c =
+    let Q : FixedDevice → Type 0 = λ d. 0 < d.queues in
+    let M : FixedDevice → Type 0 = λ d. length d.masks ≡ 1 in
+    let batch : IsBatch (constants_in c.in_ok-device.device) c.in_ok-setup.setup = record {
+      layout = c.args.layout.now;
+      number = c.args.conversation.now.driver.submitted;
+      guest = c.args.conversation.now.memory.guest;
+      asks = c.args.asks.now;
+      setup_is = c.in_ok-setup.ensures.setup;
+      queues = subst Q (sym c.in_ok-device.ensures) c.requires.queues;
+      laid = c.requires.laid;
+      small = c.requires.small;
+      ready = c.requires.ready;
+    } in
+    let P : TalkFault → Type 0 = λ e. length c.args.constants.now.masks ≡ 1 → (rounds : ℕ) → c.args.schedule.now ≡ schedule_of rounds 3 → rounds < 4294967296 → IsFew (length c.args.asks.now) c.args.batch rounds e in
+    err_by c.from_residual-in_err-run.result c.in_err-run.field-0.0 P c.from_residual-in_err-run.ensures.1
+    (λ single rounds turns few. c.in_err-run.ensures.few batch (subst M (sym c.in_ok-device.ensures) single) rounds turns few)
+
+pub returns-in_err-collect_all-clause-few : goal.returns-in_err-collect_all-clause-few
+returns-in_err-collect_all-clause-few g c =
+    let P : TalkFault → Type 0 = λ e. length c.args.constants.now.masks ≡ 1 → (rounds : ℕ) → c.args.schedule.now ≡ schedule_of rounds 3 → rounds < 4294967296 → IsFew (length c.args.asks.now) c.args.batch rounds e in
+    err_by c.from_residual-in_err-collect_all.result c.in_err-collect_all.field-0.0 P c.from_residual-in_err-collect_all.ensures.1
+    (λ single rounds turns few. no_rest_few (length c.args.asks.now) c.args.batch rounds c.in_err-collect_all.field-0.0 c.in_err-collect_all.ensures.rests)
