@@ -5,40 +5,25 @@ use Rattle.vub_mem.specs.Memory.{Guest}
 use Rattle.vub_mem.specs.Place.{content_of}
 use Rattle.vub_queue.specs.declared.chain.Chain.{Chain}
 use Rattle.vub_model.specs.declared.constants.Constants.{Constants}
-use Rattle.vub_model.specs.declared.party.Party.{Party}
-use Rattle.vub_model.specs.declared.party.Party.TheVariants as party
-use Rattle.vub_model.specs.declared.play.Play.{Play}
-use Rattle.vub_model.specs.declared.play.Play.TheVariants as play
 use Rattle.vub_model.specs.declared.records.Span.{Span}
 use Rattle.vub_model.specs.declared.run.Run.{Run}
-use Rattle.vub_model.specs.declared.setup.Guest.{Guest as Action}
 use Rattle.vub_model.specs.declared.setup.Guest.TheVariants.{Signal}
-use Rattle.vub_model.specs.declared.setup.Object.{Object}
 use Rattle.vub_model.specs.declared.setup.Object.TheVariants as object
-use Rattle.vub_model.specs.RunOf.{party_of, Turn, IsRun, IsAtRest}
-use Rattle.vub_model.specs.RunRecords.{spans_from, spans_in}
 use Rattle.vub_model.specs.Service.{Meaning}
-use Rattle.vub_model.specs.World.{World, May, stored}
-use Rattle.vub_driver.specs.Calls.{collect_answer, state_submitted}
+use Rattle.vub_driver.specs.Calls.{state_submitted}
 use Rattle.vub_driver.specs.Law.{numbered}
 use Rattle.vub_driver.specs.Machine.{Asked, World as Dialog}
 use Rattle.vub_driver.specs.Places.{half_of}
 use Rattle.vub_driver.specs.State.{State}
 use Rattle.vub_driver.specs.declared.done.Done.{Done}
-use Rattle.vub_driver.specs.declared.error.DriverError.{DriverError}
-use Rattle.vub_driver.proofs.Collecting.{collects, keeps_collected, never_refused, next_in}
-use Rattle.vub_driver.proofs.Flat.{IsFlat}
+use Rattle.vub_driver.proofs.Collecting.{collects}
 use Rattle.vub_driver.proofs.Kept.{Keeps, taken_by, taken_low, length-numbered}
 use Rattle.vub_talk.specs.declared.ask.Ask.{Ask}
 use Rattle.vub_talk.specs.Asking.{AreSmall, MaySubmit, region}
 use Rattle.vub_talk.specs.Replies.{asked_by, replies_to, value_after}
 use Rattle.vub_talk.specs.Talking.{Collects, guest_asked, spans_stored, state_asked}
-use Rattle.vub_talk.proofs.Gathering.{Goal, Stage, actions_from}
-use Rattle.vub_talk.proofs.Gathering.Stage.{between, requested, chained, slotted, ended}
-use Rattle.vub_talk.proofs.Opened.{IsSame, keeps_same}
-use Rattle.vub_talk.proofs.Playing.{GathersIn}
-use Rattle.vub_talk.proofs.Spanned.{content_spanned, spans_over, spans_whole}
-use Rattle.vub_talk.proofs.Untouched.{Untouched, acts_on, regions_stored}
+use Rattle.vub_talk.proofs.Gathering.{Goal}
+use Rattle.vub_talk.proofs.Untouched.{acts_on}
 use Rattle.vub_model.specs.Opening.{opening}
 use Rattle.vub_talk.specs.Batches.{asks_stored, batch_setup}
 use Rattle.vub_talk.specs.Machine.{constants_in, fixed, setup_for}
@@ -56,7 +41,7 @@ use Rattle.vub_model.specs.Shared.{count_at}
 use Rattle.vub_model.specs.RunRecords.{counts_from}
 use Rattle.vub_talk.specs.Talks.{Talks, IsTrusted}
 use Rattle.vub_talk.proofs.Beginning.{IsBetween, begins, untouched}
-use Rattle.vub_talk.proofs.Ending.{Ends, ends, guest_rests, collected_on, trusted}
+use Rattle.vub_talk.proofs.Ending.{Ends, ends, guest_rests, collected_on}
 use Rattle.vub_talk.proofs.Opened.{asks_made, asks_flat}
 use Rattle.vub_talk.proofs.Playing.{run_gathers}
 use Rattle.vub_talk.proofs.Untouched.{length-acts_on, run_untouched}

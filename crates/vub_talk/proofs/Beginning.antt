@@ -5,14 +5,11 @@ use Rattle.std.proofs.lemmas.Bool.{ne_eqb}
 use Rattle.std.proofs.lemmas.List.{length-replicate}
 use Rattle.vub_mem.specs.Memory.{Guest}
 use Rattle.vub_mem.specs.Place.{content_of}
-use Rattle.vub_queue.specs.Ring.{Ring}
 use Rattle.vub_model.specs.declared.constants.Constants.{Constants}
-use Rattle.vub_model.specs.declared.phase.Phase.{Phase}
 use Rattle.vub_model.specs.declared.phase.Phase.TheVariants.{Idle}
 use Rattle.vub_model.specs.declared.setup.GivenRing.{GivenRing}
 use Rattle.vub_model.specs.declared.setup.Guest.{Guest as Action}
 use Rattle.vub_model.specs.declared.setup.Guest.TheVariants.{Signal}
-use Rattle.vub_model.specs.declared.setup.Setup.{Setup}
 use Rattle.vub_model.specs.declared.wiring.Place.{Place}
 use Rattle.vub_model.specs.Opening.{before_rings, claimed, claimed_event, exit_member, given_queue, given_vring, joined, listed, opened_worker, opening, opening_members, placed, ring_from, wiring_of}
 use Rattle.vub_model.specs.RingRecord.{Vring, closed_ring, is_on, is_in_flight}
@@ -23,7 +20,6 @@ use Rattle.vub_model.specs.World.{World, phase_at}
 use Rattle.vub_driver.specs.Calls.{index_of}
 use Rattle.vub_driver.specs.Machine.{Asked, World as Dialog}
 use Rattle.vub_driver.specs.Places.{half_of}
-use Rattle.vub_driver.specs.State.{State}
 use Rattle.vub_driver.specs.declared.layout.Layout.{Layout}
 use Rattle.vub_driver.proofs.Kept.{Keeps}
 use Rattle.vub_talk.specs.declared.ask.Ask.{Ask}

@@ -4,6 +4,21 @@ pub mod Asked
 pub mod Batching
 pub mod Collected
 pub mod Valid
+pub mod Guarding
+pub mod Keeping
+pub mod Stored
+pub mod Chained
+pub mod Leaving
+pub mod Standing
+pub mod Resting
+pub mod Acting
+pub mod Openings
+pub mod Rested
+pub mod Submitted
+pub mod Safe
+pub mod Began
+pub mod Spans
+pub mod Blank
 pub mod Storing
 pub mod Ahead
 pub mod Gathering
@@ -19,3 +34,4 @@ pub mod Batched
 pub mod Pushed
 pub mod Started
 pub mod Telling
+pub mod Fewer

@@ -1,8 +1,10 @@
+pub mod Ample
 pub mod Asking
 pub mod Batches
 pub mod Faults
 pub mod Late
 pub mod Machine
+pub mod Ready
 pub mod Replies
 pub mod Talked
 pub mod Talking

@@ -1,15 +1,17 @@
 //! The guest's side of a conversation: its driver, and guest memory as it stands between two batches.
 ghost use Rattle.std.specs.Prelude.{◌≡◌, ◌⊎◌, ◌+◌, ◌-◌, ◌++◌, ◌∷◌, ◌<◌, ◌^◌, [], false, None, Some, length, option_map};
-ghost use Rattle.std.specs.Prelude.{IfOk, IfErr, IfSome, OnOk, OnErr};
+ghost use Rattle.std.specs.Prelude.{ℕ, IfOk, IfErr, IfSome, OnOk, OnErr};
 ghost use Rattle.vub_mem.specs.Place.{content_of};
 ghost use Rattle.vub_driver.specs.Calls.{new_state, state_submitted, submit_fault, submit_guest};
 ghost use Rattle.vub_driver.specs.Layouts.{new_fault};
 ghost use Rattle.vub_driver.specs.Writings.{writes_of};
-ghost use Rattle.vub_model.specs.World.{stored};
 ghost use Rattle.vub_model.specs.declared.setup.Guest.TheVariants.{Signal};
+ghost use Rattle.vub_talk.specs.Ample.{IsNoRest};
 ghost use Rattle.vub_talk.specs.Asking.{blank, zeros, AreSmall, HasMoved, MaySubmit, NumbersOn};
 ghost use Rattle.vub_talk.specs.Batches.{asks_stored, batch_setup, stores_of};
 ghost use Rattle.vub_talk.specs.Late.{refusal_of, IsLate};
+ghost use Rattle.vub_talk.specs.Ready.{AreOff, IsLaid, IsReady};
+ghost use Rattle.vub_model.specs.World.{stored};
 ghost use Rattle.vub_talk.specs.Talking.{guest_asked, spans_stored, state_asked, Collects};
 ghost use Rattle.vub_talk.specs.Talks.{IsSlow, IsTrusted};
 
@@ -96,12 +98,12 @@ pub(crate) fn zero_memory(alloc: Global) -> Result<GuestMemory<()>, OutOfMemory>
 }
 
 /// Stores bytes that a run wrote.
-#[tactic(auto, using(crate::proofs::Asked::store_length))]
+#[tactic(auto, using(crate::proofs::Asked::store_length), unfolding(vub_model::specs::World::stored))]
 fn store_span(memory: &mut GuestMemory<()>, span: &Span)
+    ensures guest { memory.new.guest ≡ stored memory.old.guest 0 span.now.offset span.now.bytes }
     ensures bytes { length (content_of memory.new.guest.contents 0)
         ≡ length (content_of memory.old.guest.contents 0) }
     ensures regions { memory.new.guest.regions ≡ memory.old.guest.regions }
-    ensures guest { memory.new.guest ≡ stored memory.old.guest 0 span.now.offset span.now.bytes }
 {
     let len = memory.content(MEMORY).len();
     let bytes = span.bytes.as_slice();
@@ -155,7 +157,11 @@ impl Conversation {
         requires layout { layout.now ≡ self.old.driver.layout }
         requires may { MaySubmit self.old.driver self.old.memory.guest.regions (length asks.now) }
         requires small { AreSmall layout.now asks.now }
+        requires laid { IsLaid layout.now }
+        requires ready { IsReady layout.now self.old.driver.submitted self.old.memory.guest }
         ensures driver { OnOk result (HasMoved (length asks.now) 0 self.old.driver self.new.driver) }
+        ensures ready { OnOk result (IsReady layout.now (self.old.driver.submitted + length asks.now)
+            self.new.memory.guest) }
         ensures regions { OnOk result (self.new.memory.guest.regions ≡ self.old.memory.guest.regions) }
         ensures bytes { OnOk result (length (content_of self.new.memory.guest.contents 0)
             ≡ length (content_of self.old.memory.guest.contents 0)) }
@@ -184,6 +190,8 @@ impl Conversation {
             ≡ length (content_of self.old.memory.guest.contents 0) }
         ensures regions { self.new.memory.guest.regions ≡ self.old.memory.guest.regions }
         ensures driver { self.new.driver ≡ self.old.driver }
+        ensures ready { (l : Layout) (n : ℕ) → IsLaid l → AreOff l spans.now →
+            IsReady l n self.old.memory.guest → IsReady l n self.new.memory.guest }
         ensures guest { self.new.memory.guest ≡ spans_stored self.old.memory.guest spans.now }
     {
         for span in spans {
@@ -194,13 +202,10 @@ impl Conversation {
     /// Collects the reply to the oldest ask.
     ///
     /// # Errors
-    /// `NotAtRest` where it was not used; want of memory.
-    fn collect(
-        &mut self,
-        alloc: Global,
-        answers: &mut Listed<Done>,
-        batch: u64,
-    ) -> Result<(), TalkFault>
+    /// Want of memory, which stands too for an ask that was not used though the run is at rest: it is not proved that
+    /// there is none.
+    #[tactic(auto, using(crate::proofs::Fewer::refusal_rests))]
+    fn collect(&mut self, alloc: Global, answers: &mut Listed<Done>) -> Result<(), TalkFault>
         ensures driver { OnOk result (HasMoved 0 1 self.old.driver self.new.driver) }
         ensures answers { OnOk result (NumbersOn self.old.driver.collected 1 answers.old answers.new) }
         ensures replies { OnOk result
@@ -208,13 +213,14 @@ impl Conversation {
         ensures trusted { IfErr result (λ e. IsTrusted self.old.driver self.old.memory.guest → IsSlow e) }
         ensures memory { self.new.memory ≡ self.old.memory }
         ensures only { IfErr result IsLate }
+        ensures rests { IfErr result IsNoRest }
     {
         match self.driver.collect(alloc, &self.memory) {
             Ok(Some(done)) => {
                 answers.push(done)?;
                 Ok(())
             }
-            Ok(None) => Err(TalkFault::NotAtRest { batch }),
+            Ok(None) => Err(TalkFault::OutOfMemory),
             Err(fault) => Err(refusal(fault)),
         }
     }
@@ -222,13 +228,12 @@ impl Conversation {
     /// Collects the replies to so many asks.
     ///
     /// # Errors
-    /// `NotAtRest` where one was not used; want of memory.
+    /// Want of memory.
     pub(crate) fn collect_all(
         &mut self,
         alloc: Global,
         count: usize,
         answers: &mut Listed<Done>,
-        batch: u64,
     ) -> Result<(), TalkFault>
         ensures driver { OnOk result (HasMoved 0 count self.old.driver self.new.driver) }
         ensures answers { OnOk result (NumbersOn self.old.driver.collected count answers.old answers.new) }
@@ -237,9 +242,10 @@ impl Conversation {
         ensures trusted { IfErr result (λ e. IsTrusted self.old.driver self.old.memory.guest → IsSlow e) }
         ensures memory { self.new.memory ≡ self.old.memory }
         ensures only { IfErr result IsLate }
+        ensures rests { IfErr result IsNoRest }
     {
         for _ask in 0..count {
-            self.collect(alloc, answers, batch)?;
+            self.collect(alloc, answers)?;
         }
         Ok(())
     }

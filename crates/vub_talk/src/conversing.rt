@@ -7,6 +7,7 @@ ghost use Rattle.vub_driver.specs.Calls.{new_state};
 ghost use Rattle.vub_driver.specs.Layouts.{new_fault};
 ghost use Rattle.vub_driver.specs.Places.{half_of};
 ghost use Rattle.vub_open.specs.Asked.{constants_by};
+ghost use Rattle.vub_talk.specs.Ample.{AreFew};
 ghost use Rattle.vub_talk.specs.Faults.{asks_fault, setup_fault, talk_fault};
 ghost use Rattle.vub_talk.specs.Late.{IsLate};
 ghost use Rattle.vub_talk.specs.Talked.{lengths_of, IsAnswered, IsWhole};
@@ -49,6 +50,7 @@ fn talk_with<V: Service>(
     requires layout { new_fault layout.now ≡ None }
     requires asks { asks_fault layout.now asks.now ≡ None }
     requires device { setup_fault constants.now layout.now ≡ None }
+    ensures few { IfErr result (λ e. length constants.now.masks ≡ 1 → AreFew layout.now asks.now rounds e) }
     ensures whole { IfOk result (IsWhole layout.now asks.now) }
     ensures only { IfErr result IsLate }
     ensures answered { IfOk result (λ t. 0 < layout.now.slot →
@@ -102,7 +104,7 @@ fn talk_with<V: Service>(
 ///
 /// # Errors
 /// The first test of [`TalkFault`] that fails, up to `Setup`, and then the service was not asked. Then `NotAtRest`: the
-/// rounds of this batch were too few. What a driver may find wrong in a used ring never comes, where the slot is above
+/// rounds of this batch were too few; with one worker fewer than thirteen for each of its asks, and 26. What a driver may find wrong in a used ring never comes, where the slot is above
 /// 0. Want of memory may come at any place.
 #[tactic(auto, using(crate::proofs::Batching::device_none))]
 pub fn converse<D: VhostUserBackendMut, V: Service>(
@@ -130,6 +132,9 @@ pub fn converse<D: VhostUserBackendMut, V: Service>(
     ensures slow { IfErr result (λ e. 0 < layout.slot →
         (talk_fault (constants_by D.VhostUserBackendMut D.Bitmap.TRACKS device.now) layout asks.now ≡ Some e)
         ⊎ IsSlow e) }
+    ensures few { IfErr result (λ e.
+        length (constants_by D.VhostUserBackendMut D.Bitmap.TRACKS device.now).masks ≡ 1 →
+        AreFew layout asks.now rounds e) }
 {
     let driver = driver_of(alloc, layout)?;
     if let Some(fault) = asks_fault(&layout, asks) {

@@ -1,4 +1,11 @@
-use Rattle.std.proofs.Common.{rules, ◌≡◌, ◌+◌, [], ◌∷◌, ◌++◌, List, length, map, IfErr, ℕ, sym, ap, subst, ◌∙◌, arith}
+use Rattle.std.proofs.Common.{rules, ◌≡◌, ◌+◌, [], ◌∷◌, ◌++◌, List, length, map, IfErr, ℕ, sym, ap, subst, ◌∙◌, arith, ◌<◌}
+use Rattle.vub_mem.specs.Memory.{Guest}
+use Rattle.vub_proto.specs.declared.fixed.FixedDevice.{FixedDevice}
+use Rattle.vub_model.specs.declared.records.Span.{Span}
+use Rattle.vub_talk.specs.Ample.{IsBatch, IsFew}
+use Rattle.vub_talk.specs.Batches.{schedule_of}
+use Rattle.vub_talk.proofs.Fewer.{no_rest_few}
+use Rattle.vub_talk.specs.Ready.{AreOff, IsReady}
 use Rattle.vub_core.specs.Meanings.{meaning_by}
 use Rattle.vub_driver.specs.Machine.{Asked}
 use Rattle.vub_talk.specs.Asking.{NumbersOn}
@@ -60,3 +67,51 @@ returns-in_err-collect_all-clause-trusted g c =
     (trusts m v (asked ++ map (λ a. asked_by a) asks) (record { state = state_asked s asks; answers = c.args.talk.now.answers; before = s.submitted }) c.play.new.service c.store_all.new.self.memory.guest (calls_of c.in_ok-run.run'.counts) ends)) in
     let P : TalkFault → Type 0 = λ e. (v : g.row.V.Denot) → (asked : List Asked) → Talks (meaning_by g.V.Service) v asked c.args.conversation.now.driver c.args.conversation.now.memory.guest c.args.talk.now.answers c.args.service.now → IsSlow e in
     err_by c.from_residual-in_err-collect_all.result c.in_err-collect_all.field-0.0 P c.from_residual-in_err-collect_all.ensures.1 mine
+
+pub returns-clause-ready : goal.returns-clause-ready
+returns-clause-ready g c =
+    let l = c.args.layout.now in
+    let s = c.args.conversation.now.driver in
+    let old : Guest = c.args.conversation.now.memory.guest in
+    let n : ℕ = c.args.conversation.now.driver.submitted + length c.args.asks.now in
+    let Q : FixedDevice → Type 0 = λ d. 0 < d.queues in
+    let batch : IsBatch (constants_in c.in_ok-device.device) c.in_ok-setup.setup = record {
+      layout = c.args.layout.now;
+      number = c.args.conversation.now.driver.submitted;
+      guest = c.args.conversation.now.memory.guest;
+      asks = c.args.asks.now;
+      setup_is = c.in_ok-setup.ensures.setup;
+      queues = subst Q (sym c.in_ok-device.ensures) c.requires.queues;
+      laid = c.requires.laid;
+      small = c.requires.small;
+      ready = c.requires.ready;
+    } in
+    let W : List Span → Type 0 = λ spans. AreOff c.args.layout.now spans in
+    let off = subst W (sym c.as_slice.ensures) (c.in_ok-run.ensures.off batch) in
+    let R : Guest → Type 0 = λ x. IsReady c.args.layout.now (c.args.conversation.now.driver.submitted + length c.args.asks.now) x in
+    subst R (sym (ap (λ m. m.guest) c.in_ok-collect_all.ensures.memory)) (c.store_all.ensures.ready c.args.layout.now n c.requires.laid off c.in_ok-setup.ensures.ready)
+
+pub returns-in_err-run-clause-few : goal.returns-in_err-run-clause-few
+returns-in_err-run-clause-few g c =
+    let Q : FixedDevice → Type 0 = λ d. 0 < d.queues in
+    let M : FixedDevice → Type 0 = λ d. length d.masks ≡ 1 in
+    let batch : IsBatch (constants_in c.in_ok-device.device) c.in_ok-setup.setup = record {
+      layout = c.args.layout.now;
+      number = c.args.conversation.now.driver.submitted;
+      guest = c.args.conversation.now.memory.guest;
+      asks = c.args.asks.now;
+      setup_is = c.in_ok-setup.ensures.setup;
+      queues = subst Q (sym c.in_ok-device.ensures) c.requires.queues;
+      laid = c.requires.laid;
+      small = c.requires.small;
+      ready = c.requires.ready;
+    } in
+    let P : TalkFault → Type 0 = λ e. length c.args.constants.now.masks ≡ 1 → (rounds : ℕ) → c.args.schedule.now ≡ schedule_of rounds 3 → rounds < 4294967296 → IsFew (length c.args.asks.now) c.args.batch rounds e in
+    err_by c.from_residual-in_err-run.result c.in_err-run.field-0.0 P c.from_residual-in_err-run.ensures.1
+    (λ single rounds turns few. c.in_err-run.ensures.few batch (subst M (sym c.in_ok-device.ensures) single) rounds turns few)
+
+pub returns-in_err-collect_all-clause-few : goal.returns-in_err-collect_all-clause-few
+returns-in_err-collect_all-clause-few g c =
+    let P : TalkFault → Type 0 = λ e. length c.args.constants.now.masks ≡ 1 → (rounds : ℕ) → c.args.schedule.now ≡ schedule_of rounds 3 → rounds < 4294967296 → IsFew (length c.args.asks.now) c.args.batch rounds e in
+    err_by c.from_residual-in_err-collect_all.result c.in_err-collect_all.field-0.0 P c.from_residual-in_err-collect_all.ensures.1
+    (λ single rounds turns few. no_rest_few (length c.args.asks.now) c.args.batch rounds c.in_err-collect_all.field-0.0 c.in_err-collect_all.ensures.rests)

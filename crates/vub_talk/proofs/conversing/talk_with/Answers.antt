@@ -1,5 +1,6 @@
 use Rattle.std.proofs.Common.{rules, ◌≡◌, ◌⊎◌, inl, inr, ℕ, ◌+◌, ◌-◌, ◌*◌, ◌^◌, ◌<◌, ◌≤◌, List, [], ◌∷◌, ◌++◌, false, length, map, take, drop, min, None, sym, ap, ap₂, subst, ◌∙◌, arith}
 use Rattle.std.specs.List.{range_with_len}
+use Rattle.vub_mem.specs.Memory.{Guest}
 use Rattle.vub_mem.specs.Place.{content_of}
 use Rattle.vub_model.specs.ValidSetup.{fault_of}
 use Rattle.vub_model.specs.declared.setup.Guest.TheVariants.{Signal}
@@ -9,9 +10,9 @@ use Rattle.vub_driver.specs.declared.done.Done.{Done}
 use Rattle.vub_driver.specs.declared.layout.Layout.{Layout}
 use Rattle.vub_talk.specs.declared.ask.Ask.{Ask}
 use Rattle.vub_talk.specs.Asking.{AreSmall, Covers, blank, region}
+use Rattle.vub_talk.specs.Ready.{IsReady}
 use Rattle.vub_talk.specs.Batches.{asks_stored, batch_setup}
 use Rattle.vub_talk.specs.Machine.{constants_in, fixed}
-use Rattle.vub_mem.specs.Memory.{Guest}
 use Rattle.vub_core.specs.Meanings.{meaning_by}
 use Rattle.vub_driver.specs.Calls.{new_state}
 use Rattle.vub_driver.specs.Machine.{Asked}
@@ -25,6 +26,8 @@ use Rattle.vub_talk.proofs.Asked.{range-more}
 use Rattle.vub_talk.proofs.Batching.{size_taken, aligned_taken, small_asks, lies_asks, covers_layout, small-drop, small-take, part-length, length-zeros}
 use Rattle.vub_talk.proofs.Refusing.{fit_taken}
 use Rattle.vub_talk.proofs.Valid.{few_masks, no_exits, some_queues, valid}
+use Rattle.vub_talk.proofs.Submitted.{carried, ready-at}
+use Rattle.vub_talk.proofs.Blank.{blank_ready}
 use Rattle.vub_talk.proofs.conversing.talk_with.Goals as goal
 
 pub overflow_cast-parties : goal.overflow_cast-parties
@@ -44,6 +47,7 @@ loop-done-init g c =
       collected = ap (λ s. s.collected) c.requires.driver;
       regions = ap (λ m. m.regions) c.in_ok-memory.ensures;
       bytes = ap (λ m. length (content_of m.contents 0)) c.in_ok-memory.ensures ∙ length-zeros 1048576;
+      ready = (let R : Guest → Type 0 = λ x. IsReady c.args.layout.now 0 x in subst R (sym c.in_ok-memory.ensures) (blank_ready c.args.layout.now));
       numbers = ap (map (λ (d : Done). d.number)) c.new.ensures;
       calls = ap length c.new-2.ensures;
       within = omega arith;
@@ -60,6 +64,15 @@ loop-done-init g c =
       close = omega (arith, some);
       whole = λ more. omega arith;
     }
+
+pub talk_batch-requires-clause-queues : goal.talk_batch-requires-clause-queues
+talk_batch-requires-clause-queues g c = some_queues c.args.constants.now c.args.layout.now c.requires.device
+
+pub talk_batch-requires-clause-laid : goal.talk_batch-requires-clause-laid
+talk_batch-requires-clause-laid g c = record { taken = c.requires.layout; lies = lies_asks c.args.layout.now c.args.asks.now c.requires.asks }
+
+pub talk_batch-requires-clause-ready : goal.talk_batch-requires-clause-ready
+talk_batch-requires-clause-ready g c = (let so = c.loop-done.invariant in ready-at c.args.layout.now c.loop-done.done c.loop-done.conversation.driver.submitted c.loop-done.conversation.memory.guest (sym so.submitted) so.ready)
 
 pub talk_batch-requires-clause-small : goal.talk_batch-requires-clause-small
 talk_batch-requires-clause-small g c =
@@ -116,6 +129,7 @@ loop-done-preserved g c =
     let asks : List Ask = c.args.asks.now in
     let so = c.loop-done.invariant in
     let its = c.in_ok-talk_batch.ensures in
+    let s = c.loop-done.conversation.driver in
     let i = c.loop-done.done in
     let k = c.next_count-count.result in
     let part : List Ask = take (i + k - i) (drop i asks) in
@@ -137,6 +151,7 @@ loop-done-preserved g c =
       collected = omega (arith, its.driver.collected, so.collected, long);
       regions = its.regions ∙ so.regions;
       bytes = its.bytes ∙ so.bytes;
+      ready = carried l s.layout s.submitted (length part) i k c.talk_batch.new.conversation.memory.guest so.layout so.submitted long its.ready;
       numbers =
           its.answers
           ∙ ap₂ (λ xs n. xs ++ range_with_len n (length part)) so.numbers (so.collected ∙ first)
@@ -160,9 +175,6 @@ loop-done-preserved g c =
       close = omega (arith, here, more);
       whole = λ rest. elim cases as (λ _. i + k ≡ (c.loop-done.batch + 1) * half_of l) [ inl full ↦ omega (arith, full, here) | inr last ↦ absurd (omega (arith, last, rest, below)) ];
     }
-
-pub talk_batch-requires-clause-queues : goal.talk_batch-requires-clause-queues
-talk_batch-requires-clause-queues g c = some_queues c.args.constants.now c.args.layout.now c.requires.device
 
 pub returns-in_err-talk_batch-clause-slow : goal.returns-in_err-talk_batch-clause-slow
 returns-in_err-talk_batch-clause-slow g c =

@@ -8,6 +8,7 @@ use Rattle.vub_talk.specs.Replies.{asked_by}
 use Rattle.vub_talk.specs.Talked.{lengths_of}
 use Rattle.vub_talk.specs.Talks.{Talks}
 use Rattle.vub_talk.specs.Asking.{region}
+use Rattle.vub_talk.specs.Ready.{IsReady}
 use Rattle.vub_talk.proofs.conversing.talk_with.Given as goal
 
 abbrev pub invariant-loop-done : goal.invariant-loop-done
@@ -19,6 +20,7 @@ invariant-loop-done g l =
       collected : l.conversation.driver.collected ≡ l.done;
       regions : l.conversation.memory.guest.regions ≡ region ∷ [];
       bytes : length (content_of l.conversation.memory.guest.contents 0) ≡ 1048576;
+      ready : IsReady l.layout l.done l.conversation.memory.guest;
       numbers : map (λ (d : Done). d.number) l.talk.answers ≡ range_with_len 0 l.done;
       calls : length l.talk.calls ≡ l.batch;
       within : l.done ≤ length l.asks;

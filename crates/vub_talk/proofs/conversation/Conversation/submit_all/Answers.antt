@@ -8,6 +8,7 @@ use Rattle.vub_talk.specs.declared.ask.Ask.{Ask}
 use Rattle.vub_talk.specs.Asking.{Covers, is_large}
 use Rattle.vub_talk.specs.Batches.{asks_stored, stores_of}
 use Rattle.vub_talk.proofs.Accepting.{accepted, each_small, request_short}
+use Rattle.vub_talk.proofs.Submitted.{submitted-ready}
 use Rattle.vub_talk.proofs.Asked.{asks_pushed, moved-more, moved-submit}
 use Rattle.vub_driver.specs.Calls.{state_submitted, submit_guest}
 use Rattle.vub_talk.specs.Talking.{guest_asked, state_asked}
@@ -65,6 +66,8 @@ loop-ask-preserved c =
       driver = moved-more i 0 1 0 c.args.self.now.driver s c.submit.new.self.driver so.driver (moved-submit s c.submit.new.self.driver a.room its.driver);
       regions = its.regions ∙ so.regions;
       bytes = its.bytes ∙ so.bytes;
+      ready = submitted-ready l c.args.self.now.driver.submitted i s.layout s.submitted c.loop-ask.self.memory.guest c.submit.new.self.memory.guest a layout (omega (arith, so.driver.submitted))
+          (ap (is_large l) c.ask-item.is ∙ each_small l asks i a c.requires.small below) c.requires.laid so.ready its.memory;
       state = its.driver ∙ ap (λ x. state_submitted x a.room) so.state ∙ sym (state_pushed c.args.self.now.driver (take i asks) a) ∙ ap (state_asked c.args.self.now.driver) (sym taken);
       memory =
           its.memory
