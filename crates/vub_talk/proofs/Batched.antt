@@ -1,44 +1,28 @@
 -- A batch takes a conversation on: its answers are the service's replies to its asks.
-use Rattle.std.proofs.Common.{◌≡◌, ◌≢◌, ℕ, zero, suc, ◌+◌, ◌-◌, ◌*◌, ◌^◌, ◌<◌, ◌≤◌, ◌⊎◌, inl, inr, Bool, true, false, cond, nat_lt, slice_index_or, List, [], ◌∷◌, ◌++◌, length, map, take, get_or, Option, Some, None, Result, Ok, Err, IsOk, refl, sym, ap, ap₂, subst, ◌∙◌, arith}
-use Rattle.std.proofs.lemmas.List.{append-nil, take_all, length-append}
+use Rattle.std.proofs.Common.{◌≡◌, ℕ, suc, ◌+◌, ◌^◌, ◌<◌, ◌≤◌, Bool, true, false, cond, nat_lt, slice_index_or, List, [], ◌∷◌, ◌++◌, length, map, take, Option, Some, None, refl, sym, ap, ap₂, subst, ◌∙◌, arith}
+use Rattle.std.proofs.lemmas.List.{take_all, length-append}
 use Rattle.vub_mem.specs.Memory.{Guest}
 use Rattle.vub_mem.specs.Place.{content_of}
 use Rattle.vub_queue.specs.declared.chain.Chain.{Chain}
 use Rattle.vub_model.specs.declared.constants.Constants.{Constants}
-use Rattle.vub_model.specs.declared.party.Party.{Party}
-use Rattle.vub_model.specs.declared.party.Party.TheVariants as party
-use Rattle.vub_model.specs.declared.play.Play.{Play}
-use Rattle.vub_model.specs.declared.play.Play.TheVariants as play
 use Rattle.vub_model.specs.declared.records.Span.{Span}
 use Rattle.vub_model.specs.declared.run.Run.{Run}
-use Rattle.vub_model.specs.declared.setup.Guest.{Guest as Action}
 use Rattle.vub_model.specs.declared.setup.Guest.TheVariants.{Signal}
-use Rattle.vub_model.specs.declared.setup.Object.{Object}
 use Rattle.vub_model.specs.declared.setup.Object.TheVariants as object
-use Rattle.vub_model.specs.RunOf.{party_of, Turn, IsRun, IsAtRest}
-use Rattle.vub_model.specs.RunRecords.{spans_from, spans_in}
 use Rattle.vub_model.specs.Service.{Meaning}
-use Rattle.vub_model.specs.World.{World, May, stored}
-use Rattle.vub_driver.specs.Calls.{collect_answer, state_submitted}
+use Rattle.vub_driver.specs.Calls.{state_submitted}
 use Rattle.vub_driver.specs.Law.{numbered}
 use Rattle.vub_driver.specs.Machine.{Asked, World as Dialog}
 use Rattle.vub_driver.specs.Places.{half_of}
 use Rattle.vub_driver.specs.State.{State}
 use Rattle.vub_driver.specs.declared.done.Done.{Done}
-use Rattle.vub_driver.specs.declared.error.DriverError.{DriverError}
-use Rattle.vub_driver.proofs.Collecting.{collects, keeps_collected, never_refused, next_in}
-use Rattle.vub_driver.proofs.Flat.{IsFlat}
 use Rattle.vub_driver.proofs.Kept.{Keeps, taken_by, taken_low, length-numbered}
 use Rattle.vub_talk.specs.declared.ask.Ask.{Ask}
 use Rattle.vub_talk.specs.Asking.{AreSmall, MaySubmit, region}
 use Rattle.vub_talk.specs.Replies.{asked_by, replies_to, value_after}
 use Rattle.vub_talk.specs.Talking.{Collects, guest_asked, spans_stored, state_asked}
-use Rattle.vub_talk.proofs.Gathering.{Goal, Stage, actions_from}
-use Rattle.vub_talk.proofs.Gathering.Stage.{between, requested, chained, slotted, ended}
-use Rattle.vub_talk.proofs.Opened.{IsSame, keeps_same}
-use Rattle.vub_talk.proofs.Playing.{GathersIn}
-use Rattle.vub_talk.proofs.Spanned.{content_spanned, spans_over, spans_whole}
-use Rattle.vub_talk.proofs.Untouched.{Untouched, acts_on, regions_stored}
+use Rattle.vub_talk.proofs.Gathering.{Goal}
+use Rattle.vub_talk.proofs.Untouched.{acts_on}
 use Rattle.vub_model.specs.Opening.{opening}
 use Rattle.vub_talk.specs.Batches.{asks_stored, batch_setup}
 use Rattle.vub_talk.specs.Machine.{constants_in, fixed, setup_for}
@@ -56,7 +40,7 @@ use Rattle.vub_model.specs.Shared.{count_at}
 use Rattle.vub_model.specs.RunRecords.{counts_from}
 use Rattle.vub_talk.specs.Talks.{Talks, IsTrusted}
 use Rattle.vub_talk.proofs.Beginning.{IsBetween, begins, untouched}
-use Rattle.vub_talk.proofs.Ending.{Ends, ends, guest_rests, collected_on, trusted}
+use Rattle.vub_talk.proofs.Ending.{Ends, ends, guest_rests, collected_on}
 use Rattle.vub_talk.proofs.Opened.{asks_made, asks_flat}
 use Rattle.vub_talk.proofs.Playing.{run_gathers}
 use Rattle.vub_talk.proofs.Untouched.{length-acts_on, run_untouched}
@@ -144,25 +128,27 @@ module _ {V : Type 0} (m : Meaning V) (v : V) where
       let held : d.held ≡ None = none_held d.held (length d.replies) (sym k.held ∙ count ∙ sym put) in
       let taken : d.taken ≡ asked = k.taken ∙ ap₂ (λ n xs. take n xs) count e.all ∙ take_all (length asked) asked (omega arith) in
       let served = e.served held in
-      let replies : d.replies ≡ replies_to m v asked = served.1 ∙ ap (replies_to m v) taken in
-      (record {
-        dialog = record d { driver = t; answers = new };
-        keeps = k;
-        driver = refl;
-        memory = e.memory;
-        off = e.off;
-        held = held;
-        all = e.all;
-        taken = taken;
-        put = replies;
-        collected = refl;
-        whole = k.first ∙ ap₂ (λ n rs. take n (numbered 0 rs)) (got ∙ sym put) replies
-            ∙ take_all (length d.replies) (numbered 0 (replies_to m v asked)) (let long = length-numbered 0 (replies_to m v asked) in let same = ap length replies in omega arith);
-        value = served.0 ∙ ap (value_after m v) taken;
-        submits = sent;
-        collects = got;
-        long = e.long;
-      }, sym e.told ∙ put)
+      let replies : d.replies ≡ replies_to m v asked = served.1 ∙ ap (replies_to m v) taken in (
+        record {
+          dialog = record d { driver = t; answers = new };
+          keeps = k;
+          driver = refl;
+          memory = e.memory;
+          off = e.off;
+          held = held;
+          all = e.all;
+          taken = taken;
+          put = replies;
+          collected = refl;
+          whole = k.first ∙ ap₂ (λ n rs. take n (numbered 0 rs)) (got ∙ sym put) replies
+              ∙ take_all (length d.replies) (numbered 0 (replies_to m v asked)) (let long = length-numbered 0 (replies_to m v asked) in let same = ap length replies in omega arith);
+          value = served.0 ∙ ap (value_after m v) taken;
+          submits = sent;
+          collects = got;
+          long = e.long;
+        },
+        sym e.told ∙ put,
+      )
 
   -- the same, as the steps of a batch tell it
   pub batch_stands : (asked : List Asked) (s : State) (g : Guest) (answers : List Done) (service end : V) (k : Constants) (asks : List Ask) (run : Run) (l : Layout) (setup : Setup) (device : FixedDevice) (made final : Guest) (spans : List Span) →

@@ -1,21 +1,18 @@
 -- Where the set-up of a batch is opened, the machine is at the dialog of the batches before.
-use Rattle.std.proofs.Common.{◌≡◌, ◌≢◌, ℕ, zero, suc, ◌+◌, ◌%◌, ◌^◌, ◌<◌, ◌≤◌, Bool, true, false, cond, List, [], ◌∷◌, ◌++◌, length, map, get_or, Option, Some, None, refl, sym, ap, subst, ◌∙◌, arith, slice_index_or, replicate, ◌==◌}
+use Rattle.std.proofs.Common.{◌≡◌, ◌≢◌, ℕ, zero, suc, ◌+◌, ◌%◌, ◌^◌, ◌<◌, ◌≤◌, true, false, cond, List, [], ◌∷◌, ◌++◌, length, map, get_or, Option, Some, None, refl, sym, ap, subst, ◌∙◌, arith, slice_index_or, replicate, ◌==◌}
 use Rattle.std.specs.List.{range_with_len, find}
 use Rattle.std.proofs.lemmas.Bool.{ne_eqb}
 use Rattle.std.proofs.lemmas.List.{length-replicate}
 use Rattle.vub_mem.specs.Memory.{Guest}
 use Rattle.vub_mem.specs.Place.{content_of}
-use Rattle.vub_queue.specs.Ring.{Ring}
 use Rattle.vub_model.specs.declared.constants.Constants.{Constants}
-use Rattle.vub_model.specs.declared.phase.Phase.{Phase}
 use Rattle.vub_model.specs.declared.phase.Phase.TheVariants.{Idle}
 use Rattle.vub_model.specs.declared.setup.GivenRing.{GivenRing}
 use Rattle.vub_model.specs.declared.setup.Guest.{Guest as Action}
 use Rattle.vub_model.specs.declared.setup.Guest.TheVariants.{Signal}
-use Rattle.vub_model.specs.declared.setup.Setup.{Setup}
 use Rattle.vub_model.specs.declared.wiring.Place.{Place}
 use Rattle.vub_model.specs.Opening.{before_rings, claimed, claimed_event, exit_member, given_queue, given_vring, joined, listed, opened_worker, opening, opening_members, placed, ring_from, wiring_of}
-use Rattle.vub_model.specs.RingRecord.{Vring, closed_ring, is_on, is_in_flight}
+use Rattle.vub_model.specs.RingRecord.{Vring, closed_ring, is_on}
 use Rattle.vub_model.specs.Service.{Meaning}
 use Rattle.vub_model.specs.Shared.{Shared, ring_at, inserted, raised_option}
 use Rattle.vub_model.specs.Wiring.{Wiring, no_worker, opened_at, place_of}
@@ -23,7 +20,6 @@ use Rattle.vub_model.specs.World.{World, phase_at}
 use Rattle.vub_driver.specs.Calls.{index_of}
 use Rattle.vub_driver.specs.Machine.{Asked, World as Dialog}
 use Rattle.vub_driver.specs.Places.{half_of}
-use Rattle.vub_driver.specs.State.{State}
 use Rattle.vub_driver.specs.declared.layout.Layout.{Layout}
 use Rattle.vub_driver.proofs.Kept.{Keeps}
 use Rattle.vub_talk.specs.declared.ask.Ask.{Ask}

@@ -1,40 +1,32 @@
 -- Where the run of a batch has ended, its spans make the memory of the dialog, of which the replies are collected.
-use Rattle.std.proofs.Common.{◌≡◌, ◌≢◌, ℕ, zero, suc, ◌+◌, ◌-◌, ◌*◌, ◌^◌, ◌<◌, ◌≤◌, ◌⊎◌, inl, inr, Bool, true, false, List, [], ◌∷◌, ◌++◌, length, map, take, get_or, Option, Some, None, Result, Ok, Err, IsOk, refl, sym, ap, ap₂, subst, ◌∙◌, arith}
-use Rattle.std.proofs.lemmas.List.{append-nil, take_all}
+use Rattle.std.proofs.Common.{◌≡◌, ◌≢◌, ℕ, zero, suc, ◌+◌, inl, inr, Bool, false, List, [], ◌∷◌, ◌++◌, length, map, get_or, Option, Some, None, Result, Ok, Err, IsOk, refl, sym, ap, ap₂, subst, ◌∙◌, arith}
+use Rattle.std.proofs.lemmas.List.{append-nil}
 use Rattle.vub_mem.specs.Memory.{Guest}
 use Rattle.vub_mem.specs.Place.{content_of}
-use Rattle.vub_queue.specs.declared.chain.Chain.{Chain}
-use Rattle.vub_model.specs.declared.constants.Constants.{Constants}
-use Rattle.vub_model.specs.declared.party.Party.{Party}
 use Rattle.vub_model.specs.declared.party.Party.TheVariants as party
-use Rattle.vub_model.specs.declared.play.Play.{Play}
 use Rattle.vub_model.specs.declared.play.Play.TheVariants as play
 use Rattle.vub_model.specs.declared.records.Span.{Span}
-use Rattle.vub_model.specs.declared.run.Run.{Run}
 use Rattle.vub_model.specs.declared.setup.Guest.{Guest as Action}
 use Rattle.vub_model.specs.declared.setup.Guest.TheVariants.{Signal}
-use Rattle.vub_model.specs.declared.setup.Object.{Object}
 use Rattle.vub_model.specs.declared.setup.Object.TheVariants as object
-use Rattle.vub_model.specs.RunOf.{party_of, Turn, IsRun, IsAtRest}
+use Rattle.vub_model.specs.RunOf.{IsAtRest}
 use Rattle.vub_model.specs.RunRecords.{spans_from, spans_in}
 use Rattle.vub_model.specs.Service.{Meaning}
 use Rattle.vub_model.specs.Shared.{count_at}
-use Rattle.vub_model.specs.World.{World, May, stored}
-use Rattle.vub_driver.specs.Calls.{collect_answer, state_submitted}
-use Rattle.vub_driver.specs.Law.{numbered}
+use Rattle.vub_model.specs.World.{World, stored}
+use Rattle.vub_driver.specs.Calls.{collect_answer}
 use Rattle.vub_driver.specs.Machine.{Asked, World as Dialog}
-use Rattle.vub_driver.specs.Places.{half_of}
 use Rattle.vub_driver.specs.State.{State}
 use Rattle.vub_driver.specs.declared.done.Done.{Done}
 use Rattle.vub_driver.specs.declared.error.DriverError.{DriverError}
 use Rattle.vub_driver.proofs.Collecting.{collects, keeps_collected, never_refused, next_in}
 use Rattle.vub_driver.proofs.Flat.{IsFlat}
-use Rattle.vub_driver.proofs.Kept.{Keeps, taken_by, length-numbered}
+use Rattle.vub_driver.proofs.Kept.{Keeps}
 use Rattle.vub_talk.specs.declared.ask.Ask.{Ask}
-use Rattle.vub_talk.specs.Asking.{AreSmall, region}
+use Rattle.vub_talk.specs.Asking.{region}
 use Rattle.vub_talk.specs.Replies.{asked_by, replies_to, value_after}
-use Rattle.vub_talk.specs.Talking.{Collects, guest_asked, spans_stored, state_asked}
-use Rattle.vub_talk.proofs.Gathering.{Goal, Stage, actions_from}
+use Rattle.vub_talk.specs.Talking.{Collects, spans_stored, state_asked}
+use Rattle.vub_talk.proofs.Gathering.{Goal, Stage}
 use Rattle.vub_talk.proofs.Gathering.Stage.{between, requested, chained, slotted, ended}
 use Rattle.vub_talk.proofs.Opened.{IsSame, keeps_same}
 use Rattle.vub_talk.proofs.Playing.{GathersIn}

@@ -1,15 +1,9 @@
 -- A run of the machine is a dialog of driver and device: each of its turns is a step of the dialog, or a part of one, or
 -- leaves it.
-use Rattle.std.proofs.Common.{◌≡◌, ◌≢◌, ℕ, suc, ◌+◌, ◌-◌, ◌^◌, ◌<◌, ◌≤◌, ◌⊎◌, inl, inr, Bool, true, false, cond, not, List, [], ◌∷◌, ◌++◌, length, map, Option, Some, None, Result, Ok, refl, sym, ap, ap₂, subst, ◌∙◌, arith, set, eqb}
-use Rattle.std.specs.Int.{w16, to_le_bytes}
-use Rattle.std.specs.List.{AllByRecursion, list_any}
-use Rattle.vub_mem.specs.Memory.{Guest}
-use Rattle.vub_queue.specs.Ring.{Ring}
+use Rattle.std.proofs.Common.{◌≡◌, ◌≢◌, ℕ, ◌+◌, ◌^◌, ◌<◌, ◌≤◌, false, List, [], ◌∷◌, ◌++◌, length, map, Some, None}
 use Rattle.vub_queue.specs.declared.chain.Chain.{Chain}
-use Rattle.vub_proto.specs.declared.device_said.DeviceSaid.{DeviceSaid}
-use Rattle.vub_model.specs.declared.entry.Entry.{Entry}
 use Rattle.vub_model.specs.declared.phase.Phase.{Phase}
-use Rattle.vub_model.specs.declared.phase.Phase.TheVariants.{Idle, Polled, Sweep, Heard, Serving, Taken, Served, Stopped}
+use Rattle.vub_model.specs.declared.phase.Phase.TheVariants.{Taken, Served}
 use Rattle.vub_model.specs.declared.setup.Guest.{Guest as Action}
 use Rattle.vub_model.specs.declared.setup.Guest.TheVariants.{Signal}
 use Rattle.vub_model.specs.declared.small.Small.{Small}
@@ -17,7 +11,6 @@ use Rattle.vub_model.specs.RingRecord.{is_on, is_in_flight}
 use Rattle.vub_model.specs.Service.{Meaning}
 use Rattle.vub_model.specs.Shared.{Shared, ring_at}
 use Rattle.vub_model.specs.World.{phase_at}
-use Rattle.vub_driver.specs.Calls.{state_submitted}
 use Rattle.vub_driver.specs.Machine.{Asked, World as Dialog}
 use Rattle.vub_driver.specs.Places.{half_of}
 use Rattle.vub_driver.specs.State.{State}

@@ -1,33 +1,28 @@
 -- The dialog goes on where the set-up of a batch is opened.
-use Rattle.std.proofs.Common.{◌≡◌, ◌≢◌, ℕ, zero, suc, ◌+◌, ◌-◌, ◌*◌, ◌^◌, ◌<◌, ◌≤◌, ◌⊎◌, inl, inr, Bool, true, false, List, [], ◌∷◌, ◌++◌, length, map, get_or, Option, Some, None, is_some, refl, sym, ap, ap₂, subst, ◌∙◌, arith, eqb, append_assoc, slice_index_or}
+use Rattle.std.proofs.Common.{◌≡◌, ℕ, ◌+◌, ◌-◌, ◌≤◌, ◌⊎◌, inl, inr, false, List, [], ◌∷◌, ◌++◌, length, get_or, Option, Some, None, refl, sym, ap, subst, ◌∙◌, arith}
 use Rattle.std.specs.Int.{w16, to_le_bytes}
-use Rattle.std.specs.List.{range_with_len, find}
-use Rattle.std.proofs.lemmas.Bool.{cases_Bool, cases_lt, ne_eqb}
-use Rattle.std.proofs.lemmas.List.{get_or-map, get_or_past, length-replicate}
+use Rattle.std.proofs.lemmas.Bool.{cases_Bool}
 use Rattle.vub_mem.specs.declared.region.Region.{Region}
 use Rattle.vub_mem.specs.Memory.{Guest}
 use Rattle.vub_mem.specs.Place.{content_of, byte_at, byte_in, bytes_at, holds, region_of, write_at}
 use Rattle.vub_driver.specs.Calls.{chain_bytes, index_of, submit_guest, with_request, with_chain, with_slot}
-use Rattle.vub_driver.specs.Machine.{Asked, World as Dialog}
-use Rattle.vub_driver.specs.Places.{half_of, head_of, request_at, descriptors_at, avail_index_at, avail_slot_at}
-use Rattle.vub_driver.specs.State.{State}
+use Rattle.vub_driver.specs.Machine.{World as Dialog}
+use Rattle.vub_driver.specs.Places.{head_of, request_at, descriptors_at, avail_index_at, avail_slot_at}
 use Rattle.vub_driver.specs.declared.layout.Layout.{Layout}
 use Rattle.vub_driver.proofs.Cells.{in_chain, in_index, in_request, in_slot}
 use Rattle.vub_driver.proofs.Fitting.{IsApart}
 use Rattle.vub_driver.proofs.Flat.{IsFlat, Inside, flat_write, same_bytes}
-use Rattle.vub_driver.proofs.Kept.{Keeps, ask_in, reply_in, marks_in, IsSmall}
-use Rattle.vub_driver.proofs.Writes.{Lies, Reads, inside, length-chain_bytes}
-use Rattle.vub_model.specs.declared.setup.Guest.{Guest as Action}
+use Rattle.vub_driver.proofs.Kept.{Keeps}
+use Rattle.vub_driver.proofs.Writes.{Lies, inside, length-chain_bytes}
 use Rattle.vub_model.specs.declared.setup.Guest.TheVariants.{Signal}
-use Rattle.vub_model.specs.World.{stored}
 use Rattle.vub_talk.specs.declared.ask.Ask.{Ask}
-use Rattle.vub_talk.specs.Asking.{AreSmall, is_large, region}
+use Rattle.vub_talk.specs.Asking.{AreSmall, region}
 use Rattle.vub_talk.specs.Batches.{asks_stored}
-use Rattle.vub_talk.specs.Talking.{guest_asked, spans_stored, state_asked}
+use Rattle.vub_talk.specs.Talking.{guest_asked}
 use Rattle.vub_talk.proofs.Ahead.{keeps_guest}
 use Rattle.vub_talk.proofs.Storing.{store_writes}
 use Rattle.vub_talk.proofs.Turning.{small_parts}
-use Rattle.vub_talk.proofs.Untouched.{over_if, acts_on, length-over_if, content_over}
+use Rattle.vub_talk.proofs.Untouched.{over_if, acts_on, content_over}
 
 -- Memories of the region that have the same content read the same.
 

@@ -1,8 +1,7 @@
 -- The guest's stores are the dialog's submits, and so a whole run keeps the dialog.
-use Rattle.std.proofs.Common.{◌≡◌, ◌≢◌, ℕ, suc, ◌+◌, ◌-◌, ◌*◌, ◌^◌, ◌<◌, ◌≤◌, inl, inr, Bool, true, false, List, [], ◌∷◌, ◌++◌, length, map, Option, Some, None, refl, sym, ap, ap₂, subst, ◌∙◌, arith, append_assoc}
+use Rattle.std.proofs.Common.{◌≡◌, ◌≢◌, ℕ, suc, ◌+◌, ◌-◌, ◌*◌, ◌<◌, false, List, [], ◌∷◌, ◌++◌, length, map, None, refl, sym, ap, subst, ◌∙◌, arith, append_assoc}
 use Rattle.std.specs.Int.{w16, to_le_bytes}
 use Rattle.std.specs.List.{AllByRecursion}
-use Rattle.vub_mem.specs.Memory.{Guest}
 use Rattle.vub_mem.specs.Place.{write_at}
 use Rattle.vub_model.specs.declared.party.Party.{Party}
 use Rattle.vub_model.specs.declared.party.Party.TheVariants as party
@@ -13,7 +12,6 @@ use Rattle.vub_model.specs.declared.play.Play.TheVariants as play
 use Rattle.vub_model.specs.declared.setup.Guest.{Guest as Action}
 use Rattle.vub_model.specs.declared.setup.Guest.TheVariants.{Store, Signal}
 use Rattle.vub_model.specs.declared.small.Small.{Small}
-use Rattle.vub_proto.specs.declared.device_said.DeviceSaid.{DeviceSaid}
 use Rattle.vub_model.specs.Control.{MayControl}
 use Rattle.vub_model.specs.Headline.{Asked as Call, asked_at, asked as calls_of}
 use Rattle.vub_model.specs.RunOf.{party_of, Turn, IsRun, next}
@@ -26,7 +24,6 @@ use Rattle.vub_core.specs.Replies.{FitsItsRoom, CallsFit}
 use Rattle.vub_driver.specs.Calls.{chain_bytes, index_of, submit_fault, submit_guest, state_submitted}
 use Rattle.vub_driver.specs.Machine.{Asked, World as Dialog}
 use Rattle.vub_driver.specs.Places.{half_of, head_of, request_at, descriptors_at, avail_index_at, avail_slot_at}
-use Rattle.vub_driver.specs.State.{State}
 use Rattle.vub_driver.specs.declared.layout.Layout.{Layout}
 use Rattle.vub_driver.proofs.Cells.{in_chain, in_index, in_request, in_slot}
 use Rattle.vub_driver.proofs.Flat.{Inside, covers_inside}
@@ -35,7 +32,6 @@ use Rattle.vub_driver.proofs.Submitting.{keeps_submitted}
 use Rattle.vub_driver.proofs.Writes.{inside, length-chain_bytes}
 use Rattle.vub_talk.specs.declared.ask.Ask.{Ask}
 use Rattle.vub_talk.specs.Asking.{AreSmall, is_large, region}
-use Rattle.vub_talk.specs.Batches.{store_of}
 use Rattle.vub_talk.specs.Replies.{asked_by, replies_to, value_after}
 use Rattle.vub_talk.specs.Talking.{state_asked}
 use Rattle.vub_talk.proofs.Accepting.{accepted, each_small}
@@ -271,9 +267,11 @@ module _ {V : Type 0} (m : Meaning V) (v : V) (all : List Asked) (end : Goal) wh
   step : (w : World V) (p : Party) (l : Play) → May w p l → GathersIn m v all end w → AllByRecursion FitsItsRoom (asked_at m w p l) → GathersIn m v all end (after m w p l)
   step w party.Guest play.Guest may now fits = guest_acts w w.guest refl now may
   step w party.Control (play.Control s said) may now fits = absurd (let none : MayControl w.shared [] s said = subst (λ steps. MayControl w.shared steps s said) now.0.quiet may in none)
-  step w (party.Worker k) l may now fits =
-      (works m v all end w.shared w.phases w.guest w.control.plan.steps now.0 k (within-phases w.wiring w.shared w.phases k l may) w.wiring (now.1 k) (phase_at w.phases k) l may refl
-      (fits_now w k l now.0 (within-phases w.wiring w.shared w.phases k l may) fits), now.1)
+  step w (party.Worker k) l may now fits = (
+    works m v all end w.shared w.phases w.guest w.control.plan.steps now.0 k (within-phases w.wiring w.shared w.phases k l may) w.wiring (now.1 k) (phase_at w.phases k) l may refl
+        (fits_now w k l now.0 (within-phases w.wiring w.shared w.phases k l may) fits),
+    now.1,
+  )
   step w p l may now fits = absurd may
 
   turn : (w : World V) (p : Party) (l : Play) (z : World V) → Turn m w p l z → GathersIn m v all end w → AllByRecursion FitsItsRoom (asked_at m w p l) → GathersIn m v all end z

@@ -1,21 +1,17 @@
 -- A conversation before its first batch.
-use Rattle.std.proofs.Common.{◌≡◌, ℕ, zero, suc, ◌+◌, ◌-◌, ◌*◌, ◌<◌, ◌≤◌, ◌⊎◌, inl, inr, true, false, List, [], ◌∷◌, ◌++◌, length, map, take, drop, get_or, Option, Some, None, refl, sym, ap, ap₂, subst, ◌∙◌, arith, replicate, min}
+use Rattle.std.proofs.Common.{◌≡◌, ℕ, zero, suc, ◌+◌, ◌-◌, ◌*◌, ◌<◌, ◌≤◌, ◌⊎◌, inl, inr, true, false, List, [], ◌∷◌, ◌++◌, length, map, take, drop, get_or, Option, Some, None, refl, sym, ap, ap₂, ◌∙◌, arith, replicate, min}
 use Rattle.std.specs.List.{range_with_len}
 use Rattle.std.specs.Int.{w16, to_le_bytes}
 use Rattle.std.proofs.lemmas.Bool.{cases_Bool}
 use Rattle.std.proofs.lemmas.List.{length-replicate}
-use Rattle.vub_mem.specs.Memory.{Guest}
-use Rattle.vub_mem.specs.Place.{content_of, byte_at, byte_in, bytes_at, holds, region_of}
+use Rattle.vub_mem.specs.Place.{byte_at, byte_in, bytes_at, holds, region_of}
 use Rattle.vub_mem.specs.declared.region.Region.{Region}
 use Rattle.vub_driver.specs.Calls.{index_of, new_state}
-use Rattle.vub_driver.specs.Law.{numbered}
 use Rattle.vub_driver.specs.Layouts.{new_fault}
-use Rattle.vub_driver.specs.Machine.{Asked, World as Dialog}
+use Rattle.vub_driver.specs.Machine.{World as Dialog}
 use Rattle.vub_driver.specs.Places.{half_of, avail_index_at, used_index_at}
-use Rattle.vub_driver.specs.declared.done.Done.{Done}
 use Rattle.vub_driver.specs.declared.layout.Layout.{Layout}
-use Rattle.vub_driver.proofs.Fitting.{IsApart, apart_taken}
-use Rattle.vub_driver.proofs.Flat.{IsFlat, Inside}
+use Rattle.vub_driver.proofs.Fitting.{apart_taken}
 use Rattle.vub_driver.proofs.Kept.{Keeps}
 use Rattle.vub_driver.proofs.Writes.{Lies}
 use Rattle.vub_model.specs.Service.{Meaning}

@@ -1,61 +1,31 @@
 -- A worker's step keeps the dialog: a Take of an entry is its take, a Put its put, and any other step leaves it.
-use Rattle.std.proofs.Common.{◌≡◌, ◌≢◌, ℕ, suc, ◌+◌, ◌-◌, ◌*◌, ◌^◌, ◌<◌, ◌≤◌, ◌⊎◌, inl, inr, Bool, true, false, true≢false, cond, not, ◌&&◌, ◌||◌, List, [], ◌∷◌, ◌++◌, length, map, take, Option, Some, None, Result, Ok, Err, refl, sym, ap, ap₂, subst, ◌∙◌, arith, set, eqb, ltb, is_some, slice_index_or}
-use Rattle.std.specs.List.{AllByRecursion, list_any}
-use Rattle.std.proofs.lemmas.Bool.{cases_eq, or_parts, ltb-false}
-use Rattle.std.proofs.lemmas.List.{get_or-set_same, get_or-set_other, length-set, length-take-le, take_all}
+use Rattle.std.proofs.Common.{◌≡◌, ℕ, suc, ◌+◌, ◌-◌, ◌*◌, ◌^◌, ◌<◌, ◌≤◌, true, false, ◌||◌, List, [], ◌∷◌, ◌++◌, length, take, Option, Some, Ok, refl, ap, ap₂, subst, ◌∙◌, arith, ltb}
+use Rattle.std.specs.List.{list_any}
+use Rattle.std.proofs.lemmas.Bool.{or_parts, ltb-false}
+use Rattle.std.proofs.lemmas.List.{take_all}
 use Rattle.vub_mem.specs.Memory.{Guest}
 use Rattle.vub_mem.specs.Place.{covers}
-use Rattle.vub_mem.specs.declared.region.Region.{Region}
-use Rattle.vub_queue.specs.EntryNumber.{after}
-use Rattle.vub_queue.specs.Function.{took_of}
 use Rattle.vub_queue.specs.Layout.{used_element_at as ring_element_at, used_index_at as ring_used_at}
-use Rattle.vub_queue.specs.Notification.{ring_told, wants_notification, used_event_covers}
-use Rattle.vub_queue.specs.Put.{put_guest, put_answer, room_covers, used_covers, ring_used}
+use Rattle.vub_queue.specs.Notification.{wants_notification, used_event_covers}
+use Rattle.vub_queue.specs.Put.{put_answer, room_covers, used_covers}
 use Rattle.vub_queue.specs.Ring.{Ring}
-use Rattle.vub_queue.specs.Take.{IsEntry, Taken as Takes}
 use Rattle.vub_queue.specs.declared.chain.Chain.{Chain}
-use Rattle.vub_queue.specs.declared.damage.Damage.{Damage}
-use Rattle.vub_queue.specs.declared.putting.PutFault.{PutFault}
-use Rattle.vub_queue.specs.declared.putting.PutFault.TheVariants.{RoomOutside, RingOutside}
-use Rattle.vub_queue.specs.declared.segment.Segment.{Segment}
-use Rattle.vub_queue.specs.declared.took.Took.{Took}
-use Rattle.vub_queue.specs.declared.took.Took.TheVariants as took
-use Rattle.vub_queue.proofs.Walks.{takes_some}
-use Rattle.vub_model.specs.declared.cause.StopCause.TheVariants.{Exit}
-use Rattle.vub_model.specs.declared.entry.Entry.{Entry}
-use Rattle.vub_model.specs.declared.flight.Flight.TheVariants as flight
-use Rattle.vub_model.specs.declared.phase.Phase.{Phase}
-use Rattle.vub_model.specs.declared.phase.Phase.TheVariants.{Idle, Polled, Sweep, Heard, Serving, Taken, Served, Stopped}
-use Rattle.vub_model.specs.declared.play.Play.{Play}
-use Rattle.vub_model.specs.declared.play.Play.TheVariants as play
-use Rattle.vub_model.specs.declared.ring_op.RingOp.TheVariants as op
 use Rattle.vub_model.specs.declared.setup.Guest.{Guest as Action}
-use Rattle.vub_model.specs.declared.small.Small.{Small}
-use Rattle.vub_model.specs.RingRecord.{Vring, closed_ring, is_on, is_in_flight, has_addresses, changed, ring_after}
 use Rattle.vub_model.specs.Service.{Meaning}
-use Rattle.vub_model.specs.Shared.{Shared, ring_at, with_ring, raised_or_none, pending_at, swept}
-use Rattle.vub_model.specs.Wiring.{Wiring, queues_of}
-use Rattle.vub_model.specs.Work.{Local, MayWork, after_work, after_take, after_took, after_none, after_put, after_said, answer_put, is_wanted, put_said, looked, may_take, entry_of, serving, queues_numbered, published, stopped, called, used}
-use Rattle.vub_model.specs.World.{phase_at}
-use Rattle.vub_model.proofs.Cases.{work-cases, heard-leaf, take-leaf, event-shared, event-phase, token-leaf, kick-leaf, bell-leaf, listener-leaf}
-use Rattle.vub_model.proofs.Counting.{ring-own, ring-other}
-use Rattle.vub_model.proofs.Live.{looked-live, live-parts, live-taken}
-use Rattle.vub_driver.specs.Calls.{is_too_large}
+use Rattle.vub_model.specs.Work.{answer_put, is_wanted}
 use Rattle.vub_driver.specs.Machine.{Asked, World as Dialog}
-use Rattle.vub_driver.specs.Places.{half_of, reply_at, used_index_at, used_element_at}
-use Rattle.vub_driver.specs.State.{State}
+use Rattle.vub_driver.specs.Places.{reply_at, used_index_at, used_element_at}
 use Rattle.vub_driver.specs.declared.layout.Layout.{Layout}
 use Rattle.vub_driver.proofs.Cells.{in_used, in_element, in_reply}
 use Rattle.vub_driver.proofs.Flat.{covers_inside}
 use Rattle.vub_driver.proofs.Kept.{Keeps, HeldIs, IsSmall, ask_in, taken_by}
-use Rattle.vub_driver.proofs.Putting.{keeps_put}
-use Rattle.vub_driver.proofs.Taking.{keeps_entry, at_is, slot_number}
+use Rattle.vub_driver.proofs.Taking.{at_is, slot_number}
 use Rattle.vub_driver.proofs.Writes.{inside}
 use Rattle.vub_talk.specs.declared.ask.Ask.{Ask}
 use Rattle.vub_talk.specs.Asking.{AreSmall, is_large, region}
 use Rattle.vub_talk.specs.Replies.{asked_by, replies_to, value_after}
-use Rattle.vub_talk.proofs.Ahead.{Ahead, ahead_taken, ahead_put}
-use Rattle.vub_talk.proofs.Gathering.{Gathers, Hand, Stage, asked_in}
+use Rattle.vub_talk.proofs.Ahead.{Ahead}
+use Rattle.vub_talk.proofs.Gathering.{Stage}
 use Rattle.vub_talk.proofs.Gathering.Stage.{between, requested, chained, slotted, ended}
 
 -- Asks

@@ -1,13 +1,11 @@
 -- What a run did not write stands as the guest's stores alone made it.
-use Rattle.std.proofs.Common.{◌≡◌, ◌≢◌, ℕ, zero, suc, ◌+◌, ◌<◌, ◌≤◌, inl, inr, Bool, true, false, true≢false, cond, List, [], ◌∷◌, ◌++◌, length, take, drop, get_or, set, fold, refl, sym, ap, ap₂, subst, ◌∙◌, arith, eqb, leb, length-set}
-use Rattle.std.specs.List.{AllByRecursion}
+use Rattle.std.proofs.Common.{◌≡◌, ◌≢◌, ℕ, zero, suc, ◌+◌, ◌<◌, ◌≤◌, inl, inr, Bool, true, false, true≢false, cond, List, [], ◌∷◌, ◌++◌, length, take, drop, get_or, set, refl, sym, ap, subst, ◌∙◌, arith, eqb, leb, length-set}
 use Rattle.std.proofs.lemmas.Bool.{cases_Bool, cases_eq, cases_lt, eqb-true, leb-true, cond-true, cond-false}
 use Rattle.std.proofs.lemmas.List.{get_or-set_same, get_or-set_other, get_or_past}
 use Rattle.vub_mem.specs.declared.content.Content.{Content}
 use Rattle.vub_mem.specs.Memory.{Guest}
 use Rattle.vub_mem.specs.Place.{content_of, overwritten, store_at, with_bytes}
 use Rattle.vub_mem.proofs.Contents.{content_true, content_false, stores_true, stores_false, length-overwritten, length-with_bytes}
-use Rattle.vub_proto.specs.declared.device_said.DeviceSaid.{DeviceSaid}
 use Rattle.vub_model.specs.declared.party.Party.{Party}
 use Rattle.vub_model.specs.declared.party.Party.TheVariants as party
 use Rattle.vub_model.specs.declared.play.Play.{Play}
@@ -15,8 +13,8 @@ use Rattle.vub_model.specs.declared.play.Play.TheVariants as play
 use Rattle.vub_model.specs.declared.setup.Guest.{Guest as Action}
 use Rattle.vub_model.specs.declared.setup.Guest.TheVariants.{Store, Signal, Harvest}
 use Rattle.vub_model.specs.Control.{MayControl}
-use Rattle.vub_model.specs.Headline.{ChangesOnly, IsSpot}
-use Rattle.vub_model.specs.RunOf.{party_of, Turn, IsRun, next}
+use Rattle.vub_model.specs.Headline.{IsSpot}
+use Rattle.vub_model.specs.RunOf.{party_of, Turn, IsRun}
 use Rattle.vub_model.specs.Service.{Meaning}
 use Rattle.vub_model.specs.Shared.{Shared}
 use Rattle.vub_model.specs.World.{World, May, after, acted, stored, phase_at, written_by}

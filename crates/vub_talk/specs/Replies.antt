@@ -1,6 +1,5 @@
 -- What a service replies to asks, one after the other.
-use Rattle.std.specs.Prelude.{◌≡◌, ◌+◌, ◌-◌, ◌*◌, ◌<◌, ℕ, min, List, [], ◌∷◌, length, map}
-use Rattle.std.specs.List.{range_with_len}
+use Rattle.std.specs.Prelude.{ℕ, List, [], ◌∷◌}
 use Rattle.vub_model.specs.Service.{Meaning}
 use Rattle.vub_driver.specs.Machine.{Asked}
 use Rattle.vub_talk.specs.declared.ask.Ask.{Ask}

@@ -6,7 +6,6 @@ use Rattle.vub_driver.specs.Law.{numbered}
 use Rattle.vub_driver.specs.Machine.{Asked, World}
 use Rattle.vub_driver.specs.State.{State}
 use Rattle.vub_driver.specs.declared.done.Done.{Done}
-use Rattle.vub_driver.specs.declared.error.DriverError.{DriverError}
 use Rattle.vub_driver.proofs.Kept.{Keeps}
 use Rattle.vub_model.specs.Service.{Meaning}
 use Rattle.vub_talk.specs.Asking.{region}

@@ -1,4 +1,4 @@
-use Rattle.std.proofs.Common.{◌≡◌, ◌∙◌}
+use Rattle.std.proofs.Common.{◌∙◌}
 use Rattle.vub_talk.proofs.Pushed.{calls_past}
 use Rattle.vub_talk.proofs.batch.calls_in.Goals as goal
 

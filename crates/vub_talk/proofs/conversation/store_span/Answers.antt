@@ -1,4 +1,4 @@
-use Rattle.std.proofs.Common.{◌≡◌, ◌+◌, ◌-◌, ◌<◌, ◌≤◌, length, ap, ◌∙◌, arith}
+use Rattle.std.proofs.Common.{◌+◌, ◌<◌, length, ap, ◌∙◌, arith}
 use Rattle.vub_mem.specs.Place.{content_of, store_at}
 use Rattle.vub_talk.proofs.Pushed.{stored_in, stored_past}
 use Rattle.vub_talk.proofs.conversation.store_span.Goals as goal

@@ -1,4 +1,4 @@
-use Rattle.std.proofs.Common.{rules, ℕ, IfErr, sym, subst, ◌∙◌}
+use Rattle.std.proofs.Common.{rules, ℕ, sym, subst, ◌∙◌}
 use Rattle.vub_talk.specs.Asking.{NumbersOn}
 use Rattle.vub_talk.proofs.Asked.{moved-more, numbers-more}
 use Rattle.vub_talk.specs.Talking.{Collects}
