@@ -1,6 +1,6 @@
 -- A batch takes a conversation on: its answers are the service's replies to its asks.
-use Rattle.std.proofs.Common.{◌≡◌, ◌≢◌, ℕ, zero, suc, ◌+◌, ◌-◌, ◌*◌, ◌^◌, ◌<◌, ◌≤◌, ◌⊎◌, inl, inr, Bool, true, false, cond, nat_lt, slice_index_or, List, [], ◌∷◌, ◌++◌, length, map, take, get_or, Option, Some, None, Result, Ok, Err, IsOk, refl, sym, ap, ap₂, subst, ◌∙◌, arith}
-use Rattle.std.proofs.lemmas.List.{append-nil, take_all, length-append}
+use Rattle.std.proofs.Common.{◌≡◌, ℕ, suc, ◌+◌, ◌^◌, ◌<◌, ◌≤◌, Bool, true, false, cond, nat_lt, slice_index_or, List, [], ◌∷◌, ◌++◌, length, map, take, Option, Some, None, refl, sym, ap, ap₂, subst, ◌∙◌, arith}
+use Rattle.std.proofs.lemmas.List.{take_all, length-append}
 use Rattle.vub_mem.specs.Memory.{Guest}
 use Rattle.vub_mem.specs.Place.{content_of}
 use Rattle.vub_queue.specs.declared.chain.Chain.{Chain}
@@ -129,25 +129,27 @@ module _ {V : Type 0} (m : Meaning V) (v : V) where
       let held : d.held ≡ None = none_held d.held (length d.replies) (sym k.held ∙ count ∙ sym put) in
       let taken : d.taken ≡ asked = k.taken ∙ ap₂ (λ n xs. take n xs) count e.all ∙ take_all (length asked) asked (omega arith) in
       let served = e.served held in
-      let replies : d.replies ≡ replies_to m v asked = served.1 ∙ ap (replies_to m v) taken in
-      (record {
-        dialog = record d { driver = t; answers = new };
-        keeps = k;
-        driver = refl;
-        memory = e.memory;
-        off = e.off;
-        held = held;
-        all = e.all;
-        taken = taken;
-        put = replies;
-        collected = refl;
-        whole = k.first ∙ ap₂ (λ n rs. take n (numbered 0 rs)) (got ∙ sym put) replies
-            ∙ take_all (length d.replies) (numbered 0 (replies_to m v asked)) (let long = length-numbered 0 (replies_to m v asked) in let same = ap length replies in omega arith);
-        value = served.0 ∙ ap (value_after m v) taken;
-        submits = sent;
-        collects = got;
-        long = e.long;
-      }, sym e.told ∙ put)
+      let replies : d.replies ≡ replies_to m v asked = served.1 ∙ ap (replies_to m v) taken in (
+        record {
+          dialog = record d { driver = t; answers = new };
+          keeps = k;
+          driver = refl;
+          memory = e.memory;
+          off = e.off;
+          held = held;
+          all = e.all;
+          taken = taken;
+          put = replies;
+          collected = refl;
+          whole = k.first ∙ ap₂ (λ n rs. take n (numbered 0 rs)) (got ∙ sym put) replies
+              ∙ take_all (length d.replies) (numbered 0 (replies_to m v asked)) (let long = length-numbered 0 (replies_to m v asked) in let same = ap length replies in omega arith);
+          value = served.0 ∙ ap (value_after m v) taken;
+          submits = sent;
+          collects = got;
+          long = e.long;
+        },
+        sym e.told ∙ put,
+      )
 
   -- the same, as the steps of a batch tell it
   pub batch_stands : (asked : List Asked) (s : State) (g : Guest) (answers : List Done) (service end : V) (k : Constants) (asks : List Ask) (run : Run) (l : Layout) (setup : Setup) (device : FixedDevice) (made final : Guest) (spans : List Span) →

@@ -1,5 +1,5 @@
 -- Where the set-up of a batch is opened, the machine is at the dialog of the batches before.
-use Rattle.std.proofs.Common.{◌≡◌, ◌≢◌, ℕ, zero, suc, ◌+◌, ◌%◌, ◌^◌, ◌<◌, ◌≤◌, Bool, true, false, cond, List, [], ◌∷◌, ◌++◌, length, map, get_or, Option, Some, None, refl, sym, ap, subst, ◌∙◌, arith, slice_index_or, replicate, ◌==◌}
+use Rattle.std.proofs.Common.{◌≡◌, ◌≢◌, ℕ, zero, suc, ◌+◌, ◌%◌, ◌^◌, ◌<◌, ◌≤◌, true, false, cond, List, [], ◌∷◌, ◌++◌, length, map, get_or, Option, Some, None, refl, sym, ap, subst, ◌∙◌, arith, slice_index_or, replicate, ◌==◌}
 use Rattle.std.specs.List.{range_with_len, find}
 use Rattle.std.proofs.lemmas.Bool.{ne_eqb}
 use Rattle.std.proofs.lemmas.List.{length-replicate}
@@ -12,7 +12,7 @@ use Rattle.vub_model.specs.declared.setup.Guest.{Guest as Action}
 use Rattle.vub_model.specs.declared.setup.Guest.TheVariants.{Signal}
 use Rattle.vub_model.specs.declared.wiring.Place.{Place}
 use Rattle.vub_model.specs.Opening.{before_rings, claimed, claimed_event, exit_member, given_queue, given_vring, joined, listed, opened_worker, opening, opening_members, placed, ring_from, wiring_of}
-use Rattle.vub_model.specs.RingRecord.{Vring, closed_ring, is_on, is_in_flight}
+use Rattle.vub_model.specs.RingRecord.{Vring, closed_ring, is_on}
 use Rattle.vub_model.specs.Service.{Meaning}
 use Rattle.vub_model.specs.Shared.{Shared, ring_at, inserted, raised_option}
 use Rattle.vub_model.specs.Wiring.{Wiring, no_worker, opened_at, place_of}

@@ -13,9 +13,8 @@ use Rattle.vub_model.specs.RunOf.{IsAtRest}
 use Rattle.vub_model.specs.RunRecords.{spans_from, spans_in}
 use Rattle.vub_model.specs.Service.{Meaning}
 use Rattle.vub_model.specs.Shared.{count_at}
-use Rattle.vub_model.specs.World.{World, May, stored}
-use Rattle.vub_driver.specs.Calls.{collect_answer, state_submitted}
-use Rattle.vub_driver.specs.Law.{numbered}
+use Rattle.vub_model.specs.World.{World, stored}
+use Rattle.vub_driver.specs.Calls.{collect_answer}
 use Rattle.vub_driver.specs.Machine.{Asked, World as Dialog}
 use Rattle.vub_driver.specs.State.{State}
 use Rattle.vub_driver.specs.declared.done.Done.{Done}

@@ -267,9 +267,11 @@ module _ {V : Type 0} (m : Meaning V) (v : V) (all : List Asked) (end : Goal) wh
   step : (w : World V) (p : Party) (l : Play) → May w p l → GathersIn m v all end w → AllByRecursion FitsItsRoom (asked_at m w p l) → GathersIn m v all end (after m w p l)
   step w party.Guest play.Guest may now fits = guest_acts w w.guest refl now may
   step w party.Control (play.Control s said) may now fits = absurd (let none : MayControl w.shared [] s said = subst (λ steps. MayControl w.shared steps s said) now.0.quiet may in none)
-  step w (party.Worker k) l may now fits =
-      (works m v all end w.shared w.phases w.guest w.control.plan.steps now.0 k (within-phases w.wiring w.shared w.phases k l may) w.wiring (now.1 k) (phase_at w.phases k) l may refl
-      (fits_now w k l now.0 (within-phases w.wiring w.shared w.phases k l may) fits), now.1)
+  step w (party.Worker k) l may now fits = (
+    works m v all end w.shared w.phases w.guest w.control.plan.steps now.0 k (within-phases w.wiring w.shared w.phases k l may) w.wiring (now.1 k) (phase_at w.phases k) l may refl
+        (fits_now w k l now.0 (within-phases w.wiring w.shared w.phases k l may) fits),
+    now.1,
+  )
   step w p l may now fits = absurd may
 
   turn : (w : World V) (p : Party) (l : Play) (z : World V) → Turn m w p l z → GathersIn m v all end w → AllByRecursion FitsItsRoom (asked_at m w p l) → GathersIn m v all end z

@@ -1,6 +1,6 @@
 -- One ask more, one span more, one collect more.
 use Rattle.std.proofs.Common.{◌≡◌, ◌≢◌, ◌==◌, cond, find, drop, get_or, ℕ, zero, suc, ◌+◌, ◌-◌, ◌<◌, ◌≤◌, Bool, true, false, List, [], ◌∷◌, ◌++◌, length, Some, Ok, Err, Result, Option, refl, sym, ap, subst, ◌∙◌, arith, leb}
-use Rattle.std.proofs.lemmas.Bool.{cond-true, cond-false, le-leb, leb-false, eq-eqb, ne_eqb}
+use Rattle.std.proofs.lemmas.Bool.{cond-true, cond-false, le-leb, eq-eqb, ne_eqb}
 use Rattle.std.specs.Option.{option_map_or}
 use Rattle.std.proofs.lemmas.List.{drop_more, drop_all}
 use Rattle.vub_model.specs.declared.records.Count.{Count}

@@ -1,15 +1,14 @@
 -- The call counts what is put, and nothing reads it.
-use Rattle.std.proofs.Common.{◌≡◌, ◌≢◌, ℕ, zero, suc, ◌+◌, ◌^◌, ◌<◌, ◌≤◌, inl, inr, Bool, true, false, true≢false, ◌-◌, List, [], ◌∷◌, length, map, get_or, set, Option, Some, None, is_some, refl, sym, ap, subst, ◌∙◌, arith, slice_index_or, length-set}
-use Rattle.std.specs.List.{range_with_len}
-use Rattle.std.proofs.lemmas.Bool.{cases_eq, cases_lt, ne_eqb, lt-ltb}
+use Rattle.std.proofs.Common.{◌≡◌, ◌≢◌, ℕ, ◌+◌, ◌^◌, ◌<◌, inl, inr, true, false, true≢false, ◌-◌, List, [], length, set, Option, Some, None, is_some, refl, sym, ap, subst, ◌∙◌, arith, slice_index_or, length-set}
+use Rattle.std.proofs.lemmas.Bool.{cases_eq, cases_lt, lt-ltb}
 use Rattle.std.proofs.lemmas.List.{get_or-set_same, get_or-set_other, set_past}
 use Rattle.vub_event.specs.declared.event.Event.{Event}
 use Rattle.vub_event.specs.declared.member.Member.{Member}
 use Rattle.vub_event.specs.HostTable.{HostTable, event_at, members_at, with_event, with_members}
 use Rattle.vub_event.specs.InterestList.{member_of}
 use Rattle.vub_model.specs.Frame.{is_member}
-use Rattle.vub_model.specs.RingRecord.{Vring, closed_ring}
-use Rattle.vub_model.specs.Shared.{Shared, ring_at, count_of, count_at, raised_option, raised_event}
+use Rattle.vub_model.specs.RingRecord.{closed_ring}
+use Rattle.vub_model.specs.Shared.{Shared, ring_at, count_of, count_at, raised_option}
 use Rattle.vub_model.specs.Work.{is_object, has_token}
 use Rattle.vub_model.proofs.Counting.{count-other}
 

@@ -35,13 +35,13 @@ use Rattle.vub_model.proofs.Counting.{ring-own, ring-other}
 use Rattle.vub_model.proofs.Live.{looked-live, live-parts, live-taken}
 use Rattle.vub_driver.specs.Machine.{Asked, World as Dialog}
 use Rattle.vub_driver.specs.Places.{half_of}
+use Rattle.vub_driver.proofs.Kept.{taken_by}
 use Rattle.vub_driver.proofs.Putting.{keeps_put}
 use Rattle.vub_driver.proofs.Taking.{keeps_entry}
 use Rattle.vub_talk.specs.Asking.{region}
 use Rattle.vub_talk.specs.Replies.{asked_by, replies_to, value_after}
-use Rattle.vub_talk.proofs.Ahead.{Ahead, ahead_taken, ahead_put}
-use Rattle.vub_talk.proofs.Gathering.{Gathers, Goal, Hand, Stage, asked_in}
-use Rattle.vub_talk.proofs.Gathering.Stage.{between, requested, chained, slotted, ended}
+use Rattle.vub_talk.proofs.Ahead.{ahead_taken, ahead_put}
+use Rattle.vub_talk.proofs.Gathering.{Gathers, Goal, Hand, asked_in}
 use Rattle.std.proofs.lemmas.List.{length_push}
 use Rattle.vub_event.specs.HostTable.{event_at, members_at}
 use Rattle.vub_event.specs.InterestList.{member_of}

@@ -17,8 +17,8 @@ pub record IsWhole (l : Layout) (asks : List Ask) (t : Talk) : Type 0 where
   pub covered : length asks ≤ length t.calls * half_of l
   pub few : length t.calls * half_of l < length asks + half_of l
 
--- The k-th answer is the reply of the service after k calls, from the value v on; and the service has the value end after
--- all of them.
+-- The k-th answer is the reply of the service after k calls, from the value v on; and the service has the value end
+-- after all of them.
 pub record IsAnswered {V : Type 0} (m : Meaning V) (v end : V) (asks : List Ask) (t : Talk) : Type 0 where
   pub answers : t.answers ≡ numbered 0 (replies_to m v (map (λ a. asked_by a) asks))
   pub value : end ≡ value_after m v (map (λ a. asked_by a) asks)

@@ -48,7 +48,8 @@ calls_of counts = option_map_or (λ (c : Count). c.count) (find (λ (c : Count).
 
 -- The run is one of the machine of this set-up, with a service that had the value v and has the value end now; each
 -- reply fits its room; and no party has a step any more.
-pub record HasRun {V : Type 0} (m : Meaning V) (constants : Constants) (setup : Setup) (v end : V) (run : Run) : Type 0 where
+pub record HasRun {V : Type 0} (m : Meaning V) (constants : Constants) (setup : Setup) (v end : V) (run : Run)
+    : Type 0 where
   pub schedule : List ℕ
   pub plays : List Play
   pub closing : World V
