@@ -1,5 +1,5 @@
 -- Where the set-up of a batch is opened, the machine is at the dialog of the batches before.
-use Rattle.std.proofs.Common.{◌≡◌, ◌≢◌, ℕ, zero, suc, ◌+◌, ◌%◌, ◌^◌, ◌<◌, ◌≤◌, true, false, List, [], ◌∷◌, ◌++◌, length, map, get_or, Option, Some, None, refl, sym, ap, subst, ◌∙◌, arith, slice_index_or, replicate, ◌==◌}
+use Rattle.std.proofs.Common.{◌≡◌, ◌≢◌, ℕ, zero, suc, ◌+◌, ◌%◌, ◌^◌, ◌<◌, ◌≤◌, true, false, cond, List, [], ◌∷◌, ◌++◌, length, map, get_or, Option, Some, None, refl, sym, ap, subst, ◌∙◌, arith, slice_index_or, replicate, ◌==◌}
 use Rattle.std.specs.List.{range_with_len, find}
 use Rattle.std.proofs.lemmas.Bool.{ne_eqb}
 use Rattle.std.proofs.lemmas.List.{length-replicate}
@@ -11,11 +11,11 @@ use Rattle.vub_model.specs.declared.setup.GivenRing.{GivenRing}
 use Rattle.vub_model.specs.declared.setup.Guest.{Guest as Action}
 use Rattle.vub_model.specs.declared.setup.Guest.TheVariants.{Signal}
 use Rattle.vub_model.specs.declared.wiring.Place.{Place}
-use Rattle.vub_model.specs.Opening.{before_rings, claimed, given_queue, given_vring, opening, placed, ring_from, wiring_of}
+use Rattle.vub_model.specs.Opening.{before_rings, claimed, claimed_event, exit_member, given_queue, given_vring, joined, listed, opened_worker, opening, opening_members, placed, ring_from, wiring_of}
 use Rattle.vub_model.specs.RingRecord.{Vring, closed_ring, is_on}
 use Rattle.vub_model.specs.Service.{Meaning}
-use Rattle.vub_model.specs.Shared.{Shared, ring_at}
-use Rattle.vub_model.specs.Wiring.{place_of}
+use Rattle.vub_model.specs.Shared.{Shared, ring_at, inserted, raised_option}
+use Rattle.vub_model.specs.Wiring.{Wiring, no_worker, opened_at, place_of}
 use Rattle.vub_model.specs.World.{World, phase_at}
 use Rattle.vub_driver.specs.Calls.{index_of}
 use Rattle.vub_driver.specs.Machine.{Asked, World as Dialog}
@@ -33,6 +33,13 @@ use Rattle.vub_talk.proofs.Gathering.{Gathers, Goal, Hand}
 use Rattle.vub_talk.proofs.Gathering.Stage.{between}
 use Rattle.vub_talk.proofs.Opened.{IsSame, keeps_same}
 use Rattle.vub_talk.proofs.Playing.{GathersIn}
+use Rattle.vub_event.specs.declared.member.Member.{Member}
+use Rattle.vub_event.specs.HostTable.{event_at, members_at}
+use Rattle.vub_event.specs.InterestList.{with_member}
+use Rattle.vub_model.specs.Frame.{is_member}
+use Rattle.vub_model.specs.Work.{is_object}
+use Rattle.vub_model.proofs.Members.{with-other}
+use Rattle.vub_talk.proofs.Telling.{Tells, tells_joined, tells_same, tells_other, same_rings}
 use Rattle.vub_talk.proofs.Untouched.{acts_on, Untouched}
 
 -- Nothing is outstanding: all that was asked was taken and put, by a service that began with v and has this value now.
@@ -45,7 +52,7 @@ pub record IsBetween {V : Type 0} (m : Meaning V) (v : V) (d : Dialog) (service 
   pub replies : d.replies ≡ replies_to m v d.taken
   pub long : length (content_of d.guest.contents 0) ≡ 1048576
 
-module _ {V : Type 0} (m : Meaning V) (v : V) (d : Dialog) (k : Keeps region d) (service : V) (b : IsBetween m v d service) (c : Constants) (some : 0 < c.queues) (asks : List Ask)
+module _ {V : Type 0} (m : Meaning V) (v : V) (d : Dialog) (k : Keeps region d) (service : V) (b : IsBetween m v d service) (c : Constants) (some : 0 < c.queues) (exits : (w : ℕ) → slice_index_or c.exits w None ≡ None) (asks : List Ask)
     (room : d.driver.submitted + length asks ≤ d.driver.collected + half_of d.driver.layout) (counted : d.driver.submitted + length asks < 2 ^ 64) (small : AreSmall d.driver.layout asks) where
   abbrev l : Layout
   l = d.driver.layout
@@ -107,7 +114,7 @@ module _ {V : Type 0} (m : Meaning V) (v : V) (d : Dialog) (k : Keeps region d) 
   all = d.asked ++ map (λ a. asked_by a) asks
 
   abbrev pub goal : Goal
-  goal = record { state = state_asked d.driver asks; answers = d.answers }
+  goal = record { state = state_asked d.driver asks; answers = d.answers; before = d.driver.submitted }
 
   same_content : IsSame d.guest guest
   same_content = record { one = k.reads.flat.one; other = refl; content = refl }
@@ -124,9 +131,49 @@ module _ {V : Type 0} (m : Meaning V) (v : V) (d : Dialog) (k : Keeps region d) 
   abbrev held : Shared V
   held = before_rings c (batch_setup l n content actions) service
 
-  begins_same : (z : Shared V) → z.guest ≡ guest → z.rings ≡ map ring_of (range_with_len 0 c.queues) → z.service ≡ service →
+  -- what the call tells
+
+  bell_at : (a count i : ℕ) → (slice_index_or (map (λ w. opened_worker 3 c.exits w) (range_with_len a count)) i no_worker).bell ≢ 2
+  bell_at a zero i = λ is. absurd (omega (arith, is))
+  bell_at a (suc count) zero = λ is. absurd (omega (arith, is))
+  bell_at a (suc count) (suc i) = bell_at (a + 1) count i
+
+  bells : (w : ℕ) → (opened_at (wiring_of c 3) w).bell ≢ 2
+  bells w = bell_at 0 (length c.masks) w
+
+  members_off : (x : Option ℕ) (bell : ℕ) → x ≡ None → bell ≢ 2 → is_member (with_member (exit_member x c.queues) (listed bell c.queues)) 2 ≡ false
+  members_off x bell none other = ap (λ e. is_member (with_member (exit_member e c.queues) (listed bell c.queues)) 2) none ∙ with-other [] (listed bell c.queues) 2 other
+
+  lists_off : (a count i : ℕ) → is_member (slice_index_or (map (λ w. opening_members c.queues w) (map (λ w. opened_worker 3 c.exits w) (range_with_len a count))) i []) 2 ≡ false
+  lists_off a zero i = refl
+  lists_off a (suc count) zero = members_off (slice_index_or c.exits a None) (3 + a) (exits a) (λ is. absurd (omega (arith, is)))
+  lists_off a (suc count) (suc i) = lists_off (a + 1) count i
+
+  kick_off : (q : ℕ) → is_object (ring_of q).kick 2 ≡ false
+  kick_off q = elim (0 == q) as (λ t. is_object (ring_from c.max (cond {A = Option GivenRing} t (Some ring) None)).kick 2 ≡ false) [ true ↦ refl | false ↦ refl ]
+
+  kicks_off : (a count q : ℕ) → is_object (slice_index_or (map ring_of (range_with_len a count)) q closed_ring).kick 2 ≡ false
+  kicks_off a zero q = refl
+  kicks_off a (suc count) zero = kick_off a
+  kicks_off a (suc count) (suc q) = kicks_off (a + 1) count q
+
+  tells_held : Tells n (length d.replies) held
+  unfolding batch_setup
+  tells_held = record {
+    there = omega arith;
+    event = refl;
+    count = b.put ∙ omega arith;
+    unlisted = λ list. lists_off 0 (length c.masks) list;
+    call = ap (λ (r : Vring). r.call) (first_ring c.queues some);
+    kicks = λ q. kicks_off 0 c.queues q;
+  }
+
+  tells_claimed : Tells n (length d.replies) (claimed held 1 0)
+  tells_claimed = tells_other n (length d.replies) held (claimed held 1 0) (same_rings held (claimed held 1 0) refl) tells_held 1 (claimed_event 0 (event_at held.table 1)) (λ is. absurd (omega (arith, is))) refl
+
+  begins_same : (z : Shared V) → z.guest ≡ guest → z.rings ≡ map ring_of (range_with_len 0 c.queues) → z.service ≡ service → Tells n (length d.replies) z →
       Gathers m v all goal z (map (λ (mask : ℕ). Idle) c.masks) actions []
-  begins_same z memory rings value =
+  begins_same z memory rings value told =
       let own : ring_at z 0 ≡ given_vring c.max ring = ap (λ rs. slice_index_or rs 0 closed_ring) rings ∙ first_ring c.queues some in
       record {
         dialog = dialog;
@@ -148,20 +195,35 @@ module _ {V : Type 0} (m : Meaning V) (v : V) (d : Dialog) (k : Keeps region d) 
         small = small;
         state = refl;
         answered = refl;
+        low = omega (arith, k.put, b.put);
+        tells = told;
         stage = between refl;
       }
 
   abbrev placed_at : Option Place → Shared V
   placed_at o = placed (wiring_of c 3) (claimed held 1 0) 1 o
 
+  tells_placed : (p : Place) → Tells n (length d.replies) (placed_at (Some p))
+  tells_placed p =
+      let h : Shared V = claimed held 1 0 in
+      let w : Wiring = wiring_of c 3 in
+      let list : ℕ = (opened_at (wiring_of c 3) p.worker).list in
+      let members : List Member = with_member (members_at (claimed held 1 0).table list) (listed 1 p.number) in
+      let z : Shared V = joined (claimed held 1 0) list 1 p.number in
+      let off : is_member members 2 ≡ false = with-other (members_at (claimed held 1 0).table list) (listed 1 p.number) 2 (λ is. absurd (omega (arith, is))) ∙ tells_claimed.unlisted list in
+      let told : Tells n (length d.replies) z = tells_joined n (length d.replies) h z (same_rings h z refl) tells_claimed list members off refl in
+      let y : Shared V = inserted z p.worker p.number in
+      let still : Tells n (length d.replies) y = tells_same n (length d.replies) z y (same_rings z y refl) told refl in
+      tells_other n (length d.replies) y (placed_at (Some p)) (same_rings y (placed_at (Some p)) refl) still (opened_at w p.worker).bell (raised_option (event_at y.table (opened_at w p.worker).bell)) (bells p.worker) refl
+
   begins_at : (o : Option Place) → Gathers m v all goal (placed_at o) (map (λ (mask : ℕ). Idle) c.masks) actions []
   unfolding batch_setup
-  begins_at None = begins_same (placed_at None) refl refl refl
-  begins_at (Some p) = begins_same (placed_at (Some p)) refl refl refl
+  begins_at None = begins_same (placed_at None) refl refl refl tells_claimed
+  begins_at (Some p) = begins_same (placed_at (Some p)) refl refl refl (tells_placed p)
 
   pub begins : GathersIn m v all goal (opening c (setup_for d.driver d.guest asks) service)
   unfolding opening batch_setup
-  begins = begins_at (place_of (wiring_of c 3) 0)
+  begins = (begins_at (place_of (wiring_of c 3) 0), bells)
 
   untouched_same : (w : World V) → w.control.plan.steps ≡ [] → w.shared.guest ≡ guest → w.guest ≡ actions → get_or w.written 0 [] ≡ replicate (length content) false → Untouched (acts_on content actions) w
   untouched_same w quiet memory left flags = record {

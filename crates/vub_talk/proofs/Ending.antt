@@ -12,6 +12,7 @@ use Rattle.vub_model.specs.declared.setup.Object.TheVariants as object
 use Rattle.vub_model.specs.RunOf.{IsAtRest}
 use Rattle.vub_model.specs.RunRecords.{spans_from, spans_in}
 use Rattle.vub_model.specs.Service.{Meaning}
+use Rattle.vub_model.specs.Shared.{count_at}
 use Rattle.vub_model.specs.World.{World, stored}
 use Rattle.vub_driver.specs.Calls.{collect_answer}
 use Rattle.vub_driver.specs.Machine.{Asked, World as Dialog}
@@ -71,7 +72,7 @@ regions_spanned g [] = refl
 regions_spanned g (s ∷ spans) = regions_spanned (stored g 0 s.offset s.bytes) spans ∙ regions_stored g 0 s.offset s.bytes
 
 -- The dialog of the memory that the driver sees after the run: the driver has submitted all, and collected nothing more.
-pub record Ends {V : Type 0} (m : Meaning V) (v : V) (asked : List Asked) (goal : Goal) (service : V) (g : Guest) : Type 0 where
+pub record Ends {V : Type 0} (m : Meaning V) (v : V) (asked : List Asked) (goal : Goal) (service : V) (g : Guest) (calls : ℕ) : Type 0 where
   pub dialog : Dialog
   pub keeps : Keeps region dialog
   pub off : dialog.ring.event_idx ≡ false
@@ -79,13 +80,15 @@ pub record Ends {V : Type 0} (m : Meaning V) (v : V) (asked : List Asked) (goal 
   pub answered : dialog.answers ≡ goal.answers
   pub memory : dialog.guest ≡ g
   pub all : dialog.asked ≡ asked
+  pub told : length dialog.replies ≡ goal.before + calls
   pub served : dialog.held ≡ None → (service ≡ value_after m v dialog.taken) × (dialog.replies ≡ replies_to m v dialog.taken)
   pub long : length (content_of g.contents 0) ≡ 1048576
 
 pub ends : {V : Type 0} (m : Meaning V) (v : V) (all : List Asked) (goal : Goal) (z : World V) (end : List ℕ) (bytes : List ℕ) (g : Guest) (spans : List Span) →
     GathersIn m v all goal z → Untouched end z → z.guest ≡ [] → IsFlat region g → length (content_of g.contents 0) ≡ 1048576 → content_of g.contents 0 ≡ end →
-    spans ≡ spans_from z.written z.shared.guest 0 (object.Content bytes ∷ object.Event 0 ∷ object.Event 0 ∷ []) → Ends m v all goal z.shared.service (spans_stored g spans)
-ends m v all goal z end bytes g spans now kept done flat large made is =
+    spans ≡ spans_from z.written z.shared.guest 0 (object.Content bytes ∷ object.Event 0 ∷ object.Event 0 ∷ []) → Ends m v all goal z.shared.service (spans_stored g spans) (count_at z.shared.table 2)
+ends m v all goal z end bytes g spans gathered kept done flat large made is =
+    let now = gathered.0 in
     let d : Dialog = now.dialog in
     let none : now.rest ≡ [] = none_left d now.rest (subst (Stage d now.rest) done now.stage) in
     let last : List ℕ = content_of z.shared.guest.contents 0 in
@@ -105,6 +108,7 @@ ends m v all goal z end bytes g spans now kept done flat large made is =
       answered = now.answered;
       memory = refl;
       all = sym (append-nil d.asked) ∙ ap (λ xs. d.asked ++ map (λ a. asked_by a) xs) (sym none) ∙ now.asked;
+      told = now.tells.count;
       served = now.served;
       long = ap length whole ∙ kept.long;
     }

@@ -23,11 +23,13 @@ use Rattle.vub_talk.specs.Batches.{asks_stored, store_of}
 use Rattle.vub_talk.specs.Replies.{asked_by, replies_to, value_after}
 use Rattle.vub_talk.specs.Talking.{state_asked}
 use Rattle.vub_talk.proofs.Ahead.{Ahead}
+use Rattle.vub_talk.proofs.Telling.{Tells}
 
--- what the driver comes to: its state in the end, and what was collected before
+-- what the driver comes to: its state in the end, what was collected before, and how much of it was put before
 pub record Goal : Type 0 where
   pub state : State
   pub answers : List Done
+  pub before : ℕ
 
 -- what the guest does for these asks, from number n on
 abbrev pub actions_from : State → ℕ → List Ask → List Action
@@ -82,4 +84,6 @@ pub record Gathers {V : Type 0} (m : Meaning V) (v : V) (all : List Asked) (end 
   pub small : AreSmall dialog.driver.layout rest
   pub state : state_asked dialog.driver rest ≡ end.state
   pub answered : dialog.answers ≡ end.answers
+  pub low : dialog.driver.collected ≤ end.before
+  pub tells : Tells end.before (length dialog.replies) h
   pub stage : Stage dialog rest actions

@@ -34,3 +34,4 @@ pub mod Batched
 pub mod Pushed
 pub mod Started
 pub mod Fewer
+pub mod Telling

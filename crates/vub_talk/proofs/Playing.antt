@@ -39,6 +39,10 @@ use Rattle.vub_talk.proofs.Ahead.{Ahead, nothing_ahead, request_stored, chain_st
 use Rattle.vub_talk.proofs.Gathering.{Gathers, Goal, Hand, Stage, actions_from}
 use Rattle.vub_talk.proofs.Gathering.Stage.{between, requested, chained, slotted, ended}
 use Rattle.vub_talk.proofs.Storing.{store_writes}
+use Rattle.vub_event.specs.HostTable.{event_at}
+use Rattle.vub_model.specs.Shared.{raised_option}
+use Rattle.vub_model.specs.Wiring.{opened_at}
+use Rattle.vub_talk.proofs.Telling.{tells_same, tells_other, same_rings}
 use Rattle.vub_talk.proofs.Turning.{small_parts, space_left}
 use Rattle.vub_talk.proofs.Working.{works, FitsNow}
 
@@ -96,6 +100,8 @@ module _ {V : Type 0} (m : Meaning V) (v : V) (all : List Asked) (end : Goal) (h
     small = now.small;
     state = now.state;
     answered = now.answered;
+    low = now.low;
+    tells = tells_same end.before (length d.replies) h (acted h (Store 0 (at - 1048576) bs)) (same_rings h (acted h (Store 0 (at - 1048576) bs)) refl) now.tells refl;
     stage = stage;
   }
 
@@ -194,6 +200,8 @@ module _ {V : Type 0} (m : Meaning V) (v : V) (all : List Asked) (end : Goal) (h
           small = (small_parts l now.rest a more now.small is).1;
           answered = now.answered;
           state = ap (state_asked d.driver) (sym is) ∙ now.state;
+          low = now.low;
+          tells = tells_same end.before (length d.replies) h (acted h index_store) (same_rings h (acted h index_store) refl) now.tells refl;
           stage = between refl;
         }
 
@@ -219,6 +227,8 @@ module _ {V : Type 0} (m : Meaning V) (v : V) (all : List Asked) (end : Goal) (h
     small = now.small;
     state = now.state;
     answered = now.answered;
+    low = now.low;
+    tells = tells_other end.before (length d.replies) h (acted h (Signal 1)) (same_rings h (acted h (Signal 1)) refl) now.tells 1 (raised_option (event_at h.table 1)) (λ no. absurd (omega arith)) refl;
     stage = ended is refl;
   }
 
@@ -242,24 +252,26 @@ module _ {V : Type 0} (m : Meaning V) (v : V) (all : List Asked) (end : Goal) (h
 -- Runs
 
 abbrev pub GathersIn : {V : Type 0} → Meaning V → V → List Asked → Goal → World V → Type 0
-GathersIn m v all end w = Gathers m v all end w.shared w.phases w.guest w.control.plan.steps
+GathersIn m v all end w = Gathers m v all end w.shared w.phases w.guest w.control.plan.steps × ((k : ℕ) → (opened_at w.wiring k).bell ≢ 2)
 
 module _ {V : Type 0} (m : Meaning V) (v : V) (all : List Asked) (end : Goal) where
-  fits_now : (w : World V) (k : ℕ) (l : Play) → (now : GathersIn m v all end w) → (there : k < length w.phases) → AllByRecursion FitsItsRoom (asked_at m w (party.Worker k) l) →
+  fits_now : (w : World V) (k : ℕ) (l : Play) → (now : Gathers m v all end w.shared w.phases w.guest w.control.plan.steps) → (there : k < length w.phases) → AllByRecursion FitsItsRoom (asked_at m w (party.Worker k) l) →
       FitsNow m v all end w.shared w.phases w.guest w.control.plan.steps now k there (phase_at w.phases k) l
   fits_now w k play.Serve now there fits = fits
   fits_now w k label now there fits = tt
 
   guest_acts : (w : World V) (actions : List Action) → w.guest ≡ actions → GathersIn m v all end w → actions ≢ [] → GathersIn m v all end (after m (record w { guest = actions }) party.Guest play.Guest)
   guest_acts w [] is now some = absurd (some refl)
-  guest_acts w (action ∷ actions) is now some = acts m v all end w.shared w.phases w.guest w.control.plan.steps now action actions is
+  guest_acts w (action ∷ actions) is now some = (acts m v all end w.shared w.phases w.guest w.control.plan.steps now.0 action actions is, now.1)
 
   step : (w : World V) (p : Party) (l : Play) → May w p l → GathersIn m v all end w → AllByRecursion FitsItsRoom (asked_at m w p l) → GathersIn m v all end (after m w p l)
   step w party.Guest play.Guest may now fits = guest_acts w w.guest refl now may
-  step w party.Control (play.Control s said) may now fits = absurd (let none : MayControl w.shared [] s said = subst (λ steps. MayControl w.shared steps s said) now.quiet may in none)
-  step w (party.Worker k) l may now fits =
-      works m v all end w.shared w.phases w.guest w.control.plan.steps now k (within-phases w.wiring w.shared w.phases k l may) w.wiring (phase_at w.phases k) l may refl
-      (fits_now w k l now (within-phases w.wiring w.shared w.phases k l may) fits)
+  step w party.Control (play.Control s said) may now fits = absurd (let none : MayControl w.shared [] s said = subst (λ steps. MayControl w.shared steps s said) now.0.quiet may in none)
+  step w (party.Worker k) l may now fits = (
+    works m v all end w.shared w.phases w.guest w.control.plan.steps now.0 k (within-phases w.wiring w.shared w.phases k l may) w.wiring (now.1 k) (phase_at w.phases k) l may refl
+        (fits_now w k l now.0 (within-phases w.wiring w.shared w.phases k l may) fits),
+    now.1,
+  )
   step w p l may now fits = absurd may
 
   turn : (w : World V) (p : Party) (l : Play) (z : World V) → Turn m w p l z → GathersIn m v all end w → AllByRecursion FitsItsRoom (asked_at m w p l) → GathersIn m v all end z

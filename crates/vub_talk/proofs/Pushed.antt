@@ -1,6 +1,9 @@
 -- One ask more, one span more, one collect more.
-use Rattle.std.proofs.Common.{◌≡◌, ℕ, zero, suc, ◌+◌, ◌-◌, ◌<◌, ◌≤◌, false, List, [], ◌∷◌, ◌++◌, length, Some, Ok, Err, Result, Option, refl, sym, ap, subst, ◌∙◌, arith, leb}
-use Rattle.std.proofs.lemmas.Bool.{cond-true, cond-false, le-leb}
+use Rattle.std.proofs.Common.{◌≡◌, ◌≢◌, ◌==◌, cond, find, drop, get_or, ℕ, zero, suc, ◌+◌, ◌-◌, ◌<◌, ◌≤◌, Bool, true, false, List, [], ◌∷◌, ◌++◌, length, Some, Ok, Err, Result, Option, refl, sym, ap, subst, ◌∙◌, arith, leb}
+use Rattle.std.proofs.lemmas.Bool.{cond-true, cond-false, le-leb, eq-eqb, ne_eqb}
+use Rattle.std.specs.Option.{option_map_or}
+use Rattle.std.proofs.lemmas.List.{drop_more, drop_all}
+use Rattle.vub_model.specs.declared.records.Count.{Count}
 use Rattle.std.specs.Prelude.{IfErr}
 use Rattle.std.specs.Result.{IsErrAnd}
 use Rattle.vub_talk.specs.declared.fault.TalkFault.{TalkFault}
@@ -19,7 +22,7 @@ use Rattle.vub_driver.specs.declared.error.DriverError.TheVariants.{OutOfMemory}
 use Rattle.vub_talk.specs.Late.{refusal_of}
 use Rattle.vub_talk.specs.Talks.{IsSlow, IsTrusted}
 use Rattle.vub_talk.proofs.Ending.{collected_on}
-use Rattle.vub_talk.specs.Talking.{guest_asked, spans_stored, state_asked, Collects}
+use Rattle.vub_talk.specs.Talking.{guest_asked, spans_stored, state_asked, calls_of, Collects}
 
 pub state_pushed : (s : State) (asks : List Ask) (a : Ask) → state_asked s (asks ++ a ∷ []) ≡ state_submitted (state_asked s asks) a.room
 state_pushed s [] a = refl
@@ -81,3 +84,27 @@ trusted_on n s g old t new so trust =
 pub err_by : {T : Type 0} (r : Result T TalkFault) (e : TalkFault) (P : TalkFault → Type 0) → IsErrAnd r (λ x. x ≡ e) → P e → IfErr r P
 err_by (Ok x) e P is holds = tt
 err_by (Err x) e P is holds = subst P (sym is) holds
+
+-- The count of the call, one count after the other
+
+calls_cond : (b : Bool) (x : Count) (counts : List Count) → option_map_or (λ (c : Count). c.count) (cond {A = Option Count} b (Some x) (find (λ (c : Count). c.object == 2) counts)) 0 ≡ cond b x.count (calls_of counts)
+calls_cond true x counts = refl
+calls_cond false x counts = refl
+
+abbrev count_in : List Count → ℕ → Count
+count_in counts i = get_or counts i (record { object = 0; count = 0 })
+
+pub calls_here : (counts : List Count) (i : ℕ) → i < length counts → (count_in counts i).object ≡ 2 → (count_in counts i).count ≡ calls_of (drop i counts)
+calls_here counts i below same =
+    let x : Count = count_in counts i in
+    sym (ap calls_of (drop_more counts i (record { object = 0; count = 0 }) below)
+    ∙ calls_cond (x.object == 2) x (drop (i + 1) counts) ∙ cond-true (x.object == 2) x.count (calls_of (drop (i + 1) counts)) (eq-eqb x.object 2 same))
+
+pub calls_past : (counts : List Count) (i : ℕ) → i < length counts → (count_in counts i).object ≢ 2 → calls_of (drop i counts) ≡ calls_of (drop (i + 1) counts)
+calls_past counts i below other =
+    let x : Count = count_in counts i in
+    ap calls_of (drop_more counts i (record { object = 0; count = 0 }) below)
+    ∙ calls_cond (x.object == 2) x (drop (i + 1) counts) ∙ cond-false (x.object == 2) x.count (calls_of (drop (i + 1) counts)) (ne_eqb x.object 2 other)
+
+pub calls_end : (counts : List Count) (i : ℕ) → length counts ≤ i → 0 ≡ calls_of (drop i counts)
+calls_end counts i past = sym (ap calls_of (drop_all i counts past))

@@ -1,5 +1,6 @@
 -- A conversation before its first batch.
-use Rattle.std.proofs.Common.{◌≡◌, ℕ, zero, suc, ◌+◌, ◌-◌, ◌<◌, ◌⊎◌, inl, inr, true, false, List, [], ◌∷◌, ◌++◌, map, take, drop, get_or, Option, Some, None, refl, sym, ap, ap₂, ◌∙◌, arith, replicate}
+use Rattle.std.proofs.Common.{◌≡◌, ℕ, zero, suc, ◌+◌, ◌-◌, ◌*◌, ◌<◌, ◌≤◌, ◌⊎◌, inl, inr, true, false, List, [], ◌∷◌, ◌++◌, length, map, take, drop, get_or, Option, Some, None, refl, sym, ap, ap₂, ◌∙◌, arith, replicate, min}
+use Rattle.std.specs.List.{range_with_len}
 use Rattle.std.specs.Int.{w16, to_le_bytes}
 use Rattle.std.proofs.lemmas.Bool.{cases_Bool}
 use Rattle.std.proofs.lemmas.List.{length-replicate}
@@ -18,7 +19,9 @@ use Rattle.vub_talk.specs.declared.ask.Ask.{Ask}
 use Rattle.vub_talk.specs.Asking.{blank, region, zeros}
 use Rattle.vub_talk.specs.Faults.{lies_within}
 use Rattle.vub_talk.specs.Replies.{asked_by}
+use Rattle.vub_talk.specs.Talked.{lengths_of}
 use Rattle.vub_talk.specs.Talks.{Talks}
+use Rattle.vub_talk.proofs.Asked.{range-more}
 use Rattle.vub_talk.proofs.Batching.{length-zeros}
 use Rattle.vub_talk.proofs.Valid.{Within, within}
 
@@ -133,3 +136,18 @@ asked_more [] (suc i) k = (let up : suc i + k ≡ suc (i + k) = omega arith in n
 asked_more (a ∷ asks) (suc i) k =
     let up : suc i + k ≡ suc (i + k) = omega arith in
     ap (λ xs. asked_by a ∷ xs) (asked_more asks i k) ∙ sym (ap (λ n. map (λ x. asked_by x) (take n (a ∷ asks))) up)
+
+-- lengths of batches
+
+pub least : (k h r : ℕ) → k ≤ h → k ≤ r → (k ≡ h) ⊎ (k ≡ r) → k ≡ min h r
+least k h r most within cases = grind arith
+
+map-more : (f : ℕ → ℕ) (xs : List ℕ) (x : ℕ) → map f (xs ++ x ∷ []) ≡ map f xs ++ f x ∷ []
+map-more f [] x = refl
+map-more f (y ∷ xs) x = ap (λ ys. f y ∷ ys) (map-more f xs x)
+
+pub lengths_more : (l : Layout) (asks : List Ask) (n : ℕ) → lengths_of l asks (n + 1) ≡ lengths_of l asks n ++ min (half_of l) (length asks - n * half_of l) ∷ []
+lengths_more l asks n =
+    let f : ℕ → ℕ = λ batch. min (half_of l) (length asks - batch * half_of l) in
+    let up : zero + n ≡ n = omega arith in
+    ap (map f) (range-more 0 n 1 ∙ ap (λ i. range_with_len 0 n ++ i ∷ []) up) ∙ map-more f (range_with_len 0 n) n

@@ -1,5 +1,5 @@
 -- The set-up of a batch is valid for each device that a conversation takes.
-use Rattle.std.proofs.Common.{◌≡◌, ℕ, zero, suc, ◌+◌, ◌-◌, ◌*◌, ◌%◌, ◌<◌, ◌≤◌, Bool, true, false, not, cond, ◌||◌, List, [], ◌∷◌, ◌++◌, length, map, take, Option, Some, None, refl, sym, ap, subst, ◌∙◌, arith, eqb, ltb, leb}
+use Rattle.std.proofs.Common.{◌≡◌, ℕ, zero, suc, ◌+◌, ◌-◌, ◌*◌, ◌%◌, ◌<◌, ◌≤◌, Bool, true, false, not, cond, ◌||◌, List, [], ◌∷◌, ◌++◌, length, map, take, Option, Some, None, refl, sym, ap, subst, ◌∙◌, arith, eqb, ltb, leb, slice_index_or}
 use Rattle.std.specs.List.{AllByRecursion, list_all, list_any, position, position_or_len, range_with_len}
 use Rattle.std.specs.Option.{option_flatten, is_some}
 use Rattle.std.specs.Prelude.{slice_get, option_map}
@@ -263,3 +263,11 @@ unfolding fault_of batch_setup
 valid k l n content asks taken size aligned lies device long small few =
     let t = takes k l device in
     rw (device-valid k l t content, region-valid content, table-valid content long, ring-valid k l t content n size aligned, requests-valid (constants_in (fixed k)) content, guest-valid l content n asks (fit_taken l taken) (within l lies) long small few, logs-valid content) refl
+
+none_at : (exits : List (Option ℕ)) (w : ℕ) → AllByRecursion (λ exit. exit ≡ None) exits → slice_index_or exits w None ≡ None
+none_at [] w all = refl
+none_at (exit ∷ exits) zero all = all.0
+none_at (exit ∷ exits) (suc w) all = none_at exits w all.1
+
+pub no_exits : (k : Constants) (l : Layout) → setup_refused k l ≡ None → (w : ℕ) → slice_index_or (constants_in (fixed k)).exits w None ≡ None
+no_exits k l h w = none_at (constants_in (fixed k)).exits w (none-given k l (takes k l h))

@@ -1,5 +1,5 @@
 -- A worker's step keeps the dialog: a Take of an entry is its take, a Put its put, and any other step leaves it.
-use Rattle.std.proofs.Common.{◌≡◌, ◌≢◌, ℕ, ◌<◌, ◌≤◌, inl, inr, Bool, true, false, true≢false, cond, List, [], ◌∷◌, ◌++◌, length, Option, Some, None, Result, Ok, refl, sym, ap, ap₂, subst, ◌∙◌, arith, set, is_some, slice_index, slice_index_or}
+use Rattle.std.proofs.Common.{◌≡◌, ◌≢◌, ℕ, ◌+◌, ◌<◌, ◌≤◌, inl, inr, Bool, true, false, true≢false, cond, List, [], ◌∷◌, ◌++◌, length, Option, Some, None, Result, Ok, refl, sym, ap, ap₂, subst, ◌∙◌, arith, set, is_some, slice_index, slice_index_or}
 use Rattle.std.specs.List.{AllByRecursion}
 use Rattle.std.proofs.lemmas.Bool.{cases_eq}
 use Rattle.std.proofs.lemmas.List.{get_or-set_same, get_or-set_other, length-set}
@@ -35,12 +35,20 @@ use Rattle.vub_model.proofs.Counting.{ring-own, ring-other}
 use Rattle.vub_model.proofs.Live.{looked-live, live-parts, live-taken}
 use Rattle.vub_driver.specs.Machine.{Asked, World as Dialog}
 use Rattle.vub_driver.specs.Places.{half_of}
+use Rattle.vub_driver.proofs.Kept.{taken_by}
 use Rattle.vub_driver.proofs.Putting.{keeps_put}
 use Rattle.vub_driver.proofs.Taking.{keeps_entry}
 use Rattle.vub_talk.specs.Asking.{region}
 use Rattle.vub_talk.specs.Replies.{asked_by, replies_to, value_after}
 use Rattle.vub_talk.proofs.Ahead.{ahead_taken, ahead_put}
 use Rattle.vub_talk.proofs.Gathering.{Gathers, Goal, Hand, asked_in}
+use Rattle.std.proofs.lemmas.List.{length_push}
+use Rattle.vub_event.specs.HostTable.{event_at, members_at}
+use Rattle.vub_event.specs.InterestList.{member_of}
+use Rattle.vub_model.specs.Shared.{read_option}
+use Rattle.vub_model.specs.Work.{has_token, is_object}
+use Rattle.vub_model.proofs.Counting.{field-kept}
+use Rattle.vub_talk.proofs.Telling.{Tells, tells_same, tells_other, tells_raised, same_rings, no_token}
 use Rattle.vub_talk.proofs.Turning.{put_fine, small_parts, space_left, stage_kept, value_more, replies_more}
 use Rattle.vub_core.specs.Replies.{FitsItsRoom}
 use Rattle.vub_model.specs.Headline.{asked_in as calls_in}
@@ -107,8 +115,8 @@ module _ {V : Type 0} (m : Meaning V) (v : V) (all : List Asked) (end : Goal) (h
   ]
 
   -- memory, rings and service stay
-  stays : (z : Shared V) (phase : Phase) → z.guest ≡ h.guest → z.rings ≡ h.rings → z.service ≡ h.service → Hand m v d now.holder z.service k phase → Next (record { shared = z; phase = phase })
-  stays z phase guest rings service own = record {
+  stays : (z : Shared V) (phase : Phase) → z.guest ≡ h.guest → z.rings ≡ h.rings → z.service ≡ h.service → Hand m v d now.holder z.service k phase → Tells end.before (length d.replies) z → Next (record { shared = z; phase = phase })
+  stays z phase guest rings service own told = record {
     dialog = d;
     rest = now.rest;
     holder = now.holder;
@@ -128,11 +136,13 @@ module _ {V : Type 0} (m : Meaning V) (v : V) (all : List Asked) (end : Goal) (h
     small = now.small;
     state = now.state;
     answered = now.answered;
+    low = now.low;
+    tells = told;
     stage = now.stage;
   }
 
   same_shared : (phase : Phase) → Hand m v d now.holder h.service k phase → Next (record { shared = h; phase = phase })
-  same_shared phase own = stays h phase refl refl refl own
+  same_shared phase own = stays h phase refl refl refl own now.tells
 
   -- an entry is taken
   takes_entry : (c : Chain) (rest : List ℕ) → looked h 0 ≡ took.Entry c → Next (after_took h 0 rest (took.Entry c))
@@ -163,6 +173,13 @@ module _ {V : Type 0} (m : Meaning V) (v : V) (all : List Asked) (end : Goal) (h
         small = now.small;
         state = now.state;
         answered = now.answered;
+        low = now.low;
+        tells = tells_same end.before (length d.replies) h (with_ring h 0 (ring_after (ring_at h 0) op.Taken))
+            (record {
+              call = ap (λ (x : Vring). x.call) own;
+              kicks = λ q. field-kept (λ (x : Vring). x.kick) h 0 (ring_after (ring_at h 0) op.Taken) (ap (λ (x : Vring). x.kick) (live-taken (ring_at h 0) live)) q;
+            })
+            now.tells refl;
         stage = stage_kept d d.guest (record d.ring { next_avail = after d.ring.next_avail }) (d.taken ++ asked_in c ∷ []) (Some c) d.replies now.rest actions
             (λ a more is x y z few ahead. ahead_taken d (asked_by a) now.keeps now.off (space_left d.driver.submitted d.driver.collected (half_of d.driver.layout) now.rest a more now.room is) (small_parts d.driver.layout now.rest a more now.small is).0
             (record d.ring { next_avail = after d.ring.next_avail }) c (asked_in c) x y z ahead)
@@ -185,6 +202,7 @@ module _ {V : Type 0} (m : Meaning V) (v : V) (all : List Asked) (end : Goal) (h
   finds_none : (q : ℕ) (rest : List ℕ) (live : Bool) → may_take (ring_at h q) ≡ live → Next (record { shared = cond {A = Shared V} live (published h (ring_at h q).queue) h; phase = serving rest })
   finds_none q rest false is = same_shared (serving rest) (serving_hand m v d now.holder h.service k rest)
   finds_none q rest true is = stays (published h (ring_at h q).queue) (serving rest) (rw (looks_plain q is) refl) refl refl (serving_hand m v d now.holder h.service k rest)
+      (tells_same end.before (length d.replies) h (published h (ring_at h q).queue) (same_rings h (published h (ring_at h q).queue) refl) now.tells refl)
 
   takes : (queues : List ℕ) → Next (after_take h queues)
   takes [] = same_shared Idle tt
@@ -227,6 +245,8 @@ module _ {V : Type 0} (m : Meaning V) (v : V) (all : List Asked) (end : Goal) (h
         small = now.small;
         state = now.state;
         answered = now.answered;
+        low = now.low;
+        tells = tells_same end.before (length d.replies) h (after_serve m h e queues).shared (same_rings h (after_serve m h e queues).shared refl) now.tells refl;
         stage = now.stage;
       }
 
@@ -247,8 +267,8 @@ module _ {V : Type 0} (m : Meaning V) (v : V) (all : List Asked) (end : Goal) (h
     stands : put_guest h.guest (ring_at h 0).queue e.chain reply ≡ filled
     stands = ap₂ (λ g r. put_guest g r e.chain reply) now.guest now.ring
 
-    raised_puts : (z : Shared V) → z.guest ≡ (used h first reply).guest → z.rings ≡ (used h first reply).rings → z.service ≡ h.service → Next (record { shared = z; phase = serving queues })
-    raised_puts z guest rings service = record {
+    raised_puts : (z : Shared V) → z.guest ≡ (used h first reply).guest → z.rings ≡ (used h first reply).rings → z.service ≡ h.service → Tells end.before (length d.replies + 1) z → Next (record { shared = z; phase = serving queues })
+    raised_puts z guest rings service told = record {
       dialog = put;
       rest = now.rest;
       holder = now.holder;
@@ -269,15 +289,25 @@ module _ {V : Type 0} (m : Meaning V) (v : V) (all : List Asked) (end : Goal) (h
       small = now.small;
       state = now.state;
       answered = now.answered;
+      low = now.low;
+      tells = subst (λ i. Tells end.before i z) (sym (length_push d.replies reply)) told;
       stage = stage_kept d filled (ring_told (ring_used d.ring)) d.taken None (d.replies ++ reply ∷ []) now.rest actions
           (λ a more is x y z few ahead. ahead_put d (asked_by a) now.keeps now.off (space_left d.driver.submitted d.driver.collected (half_of d.driver.layout) now.rest a more now.room is) (small_parts d.driver.layout now.rest a more now.small is).0
           e.chain reply held fit x y z few ahead)
           now.stage;
     }
 
-    calls : (call : Option ℕ) → Next (record { shared = called (used h first reply) call true; phase = serving queues })
-    calls None = raised_puts (used h first reply) refl refl refl
-    calls (Some object) = raised_puts (raised_or_none (used h first reply) (Some object)) refl refl refl
+    -- the call is signalled
+    calls : Next (record { shared = called (used h first reply) (ring_at h 0).call true; phase = serving queues })
+    calls =
+        let z : Shared V = raised_or_none (used h first reply) (Some 2) in
+        let P : Option ℕ → Type 0 = λ x. Next (record { shared = called (used h first reply) x true; phase = serving queues }) in
+        let count : length d.taken ≡ length d.replies + 1 = now.keeps.held ∙ ap (λ x. taken_by x (length d.replies)) held in
+        subst P (sym now.tells.call)
+        (raised_puts (raised_or_none (used h first reply) (Some 2)) refl refl refl
+        (tells_raised end.before (length d.replies) h z
+        (record { call = ap (λ (x : Vring). x.call) own; kicks = λ q. field-kept (λ (x : Vring). x.kick) h 0 (ring_after (ring_at h 0) op.Put) refl q })
+        now.tells (omega (arith, count, now.keeps.behind, now.keeps.near, now.low, now.keeps.apart.fit.small, now.keeps.apart.fit.even)) refl))
 
     pub said : put_said h first reply ≡ Ok true
     unfolding put_said
@@ -286,7 +316,7 @@ module _ {V : Type 0} (m : Meaning V) (v : V) (all : List Asked) (end : Goal) (h
         rw addresses (ap₂ (λ g r. answer_put g r e.chain reply) now.guest now.ring ∙ put_fine d now.keeps now.off e.chain reply held fit)
 
     puts_first : Next (after_put h first reply queues)
-    puts_first = (let P : Result Bool PutFault → Type 0 = λ x. Next (after_said h first reply queues x) in subst P (sym said) (calls (ring_at h 0).call))
+    puts_first = (let P : Result Bool PutFault → Type 0 = λ x. Next (after_said h first reply queues x) in subst P (sym said) calls)
 
   puts : (e : Entry) (reply queues : List ℕ) → phase_at phases k ≡ Served e reply queues → Next (after_put h e reply queues)
   puts e reply queues is =
@@ -298,27 +328,37 @@ module _ {V : Type 0} (m : Meaning V) (v : V) (all : List Asked) (end : Goal) (h
   hand_if s true x y on off = on
   hand_if s false x y on off = off
 
+  read : (object : ℕ) → object ≢ 2 → Tells end.before (length d.replies) (counter_read h object)
+  read object other = tells_other end.before (length d.replies) h (counter_read h object) (same_rings h (counter_read h object) refl) now.tells object (read_option (event_at h.table object)) other refl
+
   -- an event is told of
-  hears : (g : Wiring) (object token : ℕ) → Next (after_event g k h object token)
-  hears g object token = token-leaf h Next g k object token
+  hears : (g : Wiring) (object token : ℕ) → (opened_at g k).bell ≢ 2 → Next (after_event g k h object token)
+  hears g object token bell = token-leaf h Next g k object token
       (λ below.
       let queue = slice_index (queues_of g k) token in
       kick-leaf h Next queue object
-      (λ own. stays (counter_read h object) (cond (is_on (ring_at h queue)) (Serving (queue ∷ [])) Idle) refl refl refl (hand_if h.service (is_on (ring_at h queue)) (Serving (queue ∷ [])) Idle tt tt))
+      (λ own. stays (counter_read h object) (cond (is_on (ring_at h queue)) (Serving (queue ∷ [])) Idle) refl refl refl (hand_if h.service (is_on (ring_at h queue)) (Serving (queue ∷ [])) Idle tt tt)
+      (read object (λ two. true≢false (sym own ∙ ap (is_object (ring_at h queue).kick) two ∙ now.tells.kicks queue))))
       (same_shared Idle tt))
-      (λ past same. bell-leaf h Next (opened_at g k).bell (opened_at g k).exit (stays (counter_read h (opened_at g k).bell) Sweep refl refl refl tt)
+      (λ past same. bell-leaf h Next (opened_at g k).bell (opened_at g k).exit (stays (counter_read h (opened_at g k).bell) Sweep refl refl refl tt (read (opened_at g k).bell bell))
       (λ zero. same_shared (cond (is_some (opened_at g k).exit) (Stopped Exit) Idle) (hand_if h.service (is_some (opened_at g k).exit) (Stopped Exit) Idle tt tt)))
-      (λ past other. listener-leaf h Next (opened_at g k).list object token (λ own. stays (counter_read h object) (Heard token) refl refl refl tt) (same_shared Idle tt))
+      (λ past other. listener-leaf h Next (opened_at g k).list object token
+      (λ own. stays (counter_read h object) (Heard token) refl refl refl tt
+      (read object (λ two.
+      let members = members_at h.table (opened_at g k).list in
+      true≢false (sym own ∙ ap (λ o. has_token (member_of members o) token) two ∙ no_token members token (now.tells.unlisted (opened_at g k).list)))))
+      (same_shared Idle tt))
 
   abbrev pub FitsNow : Phase → Play → Type 0
   FitsNow phase play.Serve = AllByRecursion FitsItsRoom (calls_in m h.service phase)
   FitsNow phase l = Unit {0}
 
-  pub works : (g : Wiring) (phase : Phase) (l : Play) → MayWork g k h phase l → phase_at phases k ≡ phase → FitsNow phase l → Next (after_work m g k h phase l)
-  works g = work-cases g k h (λ phase l. phase_at phases k ≡ phase → FitsNow phase l → Next (after_work m g k h phase l))
+  pub works : (g : Wiring) → (opened_at g k).bell ≢ 2 → (phase : Phase) (l : Play) → MayWork g k h phase l → phase_at phases k ≡ phase → FitsNow phase l → Next (after_work m g k h phase l)
+  works g bell = work-cases g k h (λ phase l. phase_at phases k ≡ phase → FitsNow phase l → Next (after_work m g k h phase l))
       (λ object may is fits. same_shared (Polled object _) tt)
-      (λ object token is fits. hears g object token)
-      (λ is fits. stays (swept h k) (serving (queues_numbered (queues_of g k) (pending_at h k))) refl refl refl (serving_hand m v d now.holder h.service k (queues_numbered (queues_of g k) (pending_at h k))))
+      (λ object token is fits. hears g object token bell)
+      (λ is fits. stays (swept h k) (serving (queues_numbered (queues_of g k) (pending_at h k))) refl refl refl (serving_hand m v d now.holder h.service k (queues_numbered (queues_of g k) (pending_at h k)))
+      (tells_same end.before (length d.replies) h (swept h k) (same_rings h (swept h k) refl) now.tells refl))
       (λ token said is fits. heard-leaf (λ phase. Next (record { shared = h; phase = phase })) (same_shared Idle tt) (λ why. same_shared (stopped why) tt) said)
       (λ queues is fits. takes queues)
       (λ e queues is fits. serves e queues is fits.0)

@@ -1,5 +1,5 @@
 -- What a conversation comes to.
-use Rattle.std.specs.Prelude.{◌≡◌, ◌≤◌, ◌<◌, ◌+◌, ◌*◌, List, length, map}
+use Rattle.std.specs.Prelude.{◌≡◌, ◌≤◌, ◌<◌, ◌+◌, ◌-◌, ◌*◌, ℕ, min, List, length, map}
 use Rattle.std.specs.List.{range_with_len}
 use Rattle.vub_driver.specs.Law.{numbered}
 use Rattle.vub_driver.specs.Places.{half_of}
@@ -22,3 +22,7 @@ pub record IsWhole (l : Layout) (asks : List Ask) (t : Talk) : Type 0 where
 pub record IsAnswered {V : Type 0} (m : Meaning V) (v end : V) (asks : List Ask) (t : Talk) : Type 0 where
   pub answers : t.answers ≡ numbered 0 (replies_to m v (map (λ a. asked_by a) asks))
   pub value : end ≡ value_after m v (map (λ a. asked_by a) asks)
+
+-- the lengths of so many batches, each of half of the size, but for the last, which has what is left
+abbrev pub lengths_of : Layout → List Ask → ℕ → List ℕ
+lengths_of l asks count = map (λ batch. min (half_of l) (length asks - batch * half_of l)) (range_with_len 0 count)

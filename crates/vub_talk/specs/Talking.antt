@@ -1,5 +1,6 @@
 -- What a batch makes of driver and memory, and what the run of its set-up came to.
-use Rattle.std.specs.Prelude.{◌≡◌, ◌+◌, ℕ, zero, suc, List, [], ◌∷◌, ◌++◌, Some, Ok}
+use Rattle.std.specs.Prelude.{◌≡◌, ◌+◌, ◌==◌, ℕ, zero, suc, List, [], ◌∷◌, ◌++◌, find, Some, Ok}
+use Rattle.std.specs.Option.{option_map_or}
 use Rattle.vub_mem.specs.Memory.{Guest}
 use Rattle.vub_driver.specs.Calls.{collect_answer, state_submitted, submit_guest}
 use Rattle.vub_driver.specs.State.{State}
@@ -7,6 +8,7 @@ use Rattle.vub_driver.specs.declared.done.Done.{Done}
 use Rattle.vub_driver.specs.declared.layout.Layout.{Layout}
 use Rattle.vub_model.specs.declared.constants.Constants.{Constants}
 use Rattle.vub_model.specs.declared.play.Play.{Play}
+use Rattle.vub_model.specs.declared.records.Count.{Count}
 use Rattle.vub_model.specs.declared.records.Span.{Span}
 use Rattle.vub_model.specs.declared.run.Run.{Run}
 use Rattle.vub_model.specs.declared.setup.Setup.{Setup}
@@ -39,6 +41,10 @@ Collects zero s g old t new = (t ≡ s) × (new ≡ old)
 Collects (suc n) s g old t new =
     (u : State) × (between : List Done) × (d : Done) × Collects n s g old u between × (collect_answer u g ≡ Ok (Some d))
     × (t ≡ record u { collected = u.collected + 1 }) × (new ≡ between ++ d ∷ [])
+
+-- the count of the call among those of a run
+abbrev pub calls_of : List Count → ℕ
+calls_of counts = option_map_or (λ (c : Count). c.count) (find (λ (c : Count). c.object == 2) counts) 0
 
 -- The run is one of the machine of this set-up, with a service that had the value v and has the value end now; each
 -- reply fits its room; and no party has a step any more.

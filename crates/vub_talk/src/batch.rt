@@ -1,5 +1,6 @@
 //! One batch of a conversation.
-ghost use Rattle.std.specs.Prelude.{ℕ, ◌≡◌, ◌+◌, ◌^◌, ◌<◌, ◌++◌, ◌∷◌, [], length, map, None, List, IfOk, IfErr, OnOk};
+ghost use Rattle.std.specs.Prelude.{ℕ, ◌≡◌, ◌+◌, ◌^◌, ◌<◌, ◌++◌, ◌∷◌, [], length, map, slice_index_or, None, List};
+ghost use Rattle.std.specs.Prelude.{IfOk, IfErr, OnOk};
 ghost use Rattle.vub_core.specs.Meanings.{meaning_by};
 ghost use Rattle.vub_driver.specs.Machine.{Asked};
 ghost use Rattle.vub_mem.specs.Place.{content_of};
@@ -11,7 +12,7 @@ ghost use Rattle.vub_talk.specs.Late.{IsLate};
 ghost use Rattle.vub_talk.specs.Machine.{constants_in, fixed, setup_for};
 ghost use Rattle.vub_talk.specs.Ready.{AreOff, IsLaid, IsReady};
 ghost use Rattle.vub_talk.specs.Replies.{asked_by};
-ghost use Rattle.vub_talk.specs.Talking.{HasRun};
+ghost use Rattle.vub_talk.specs.Talking.{calls_of, HasRun};
 ghost use Rattle.vub_talk.specs.Talks.{IsSlow, Talks};
 
 use crate::ask::Ask;
@@ -81,11 +82,16 @@ fn play<V: Service>(
 }
 
 /// The count of the call.
-fn calls_in(counts: &[Count]) -> u64 {
-    match counts.iter().find(|count| count.object == CALL) {
-        Some(count) => count.count,
-        None => 0,
+#[tactic(auto, using(crate::proofs::Pushed::calls_here, crate::proofs::Pushed::calls_end))]
+fn calls_in(counts: &[Count]) -> u64
+    ensures { result ≡ calls_of counts.now }
+{
+    for count in counts {
+        if count.object == CALL {
+            return count.count;
+        }
     }
+    0
 }
 
 /// Plays one batch: the guest submits the asks, the machine serves them, and the driver collects the replies.
@@ -111,6 +117,7 @@ pub(crate) fn talk_batch<V: Service>(
     requires queues { 0 < constants.now.queues }
     requires laid { IsLaid layout.now }
     requires ready { IsReady layout.now conversation.old.driver.submitted conversation.old.memory.guest }
+    requires exits { (w : ℕ) → slice_index_or (constants_in (fixed constants.now)).exits w None ≡ None }
     ensures driver { OnOk result
         (HasMoved (length asks.now) (length asks.now) conversation.old.driver conversation.new.driver) }
     ensures regions { OnOk result
@@ -130,6 +137,9 @@ pub(crate) fn talk_batch<V: Service>(
         service.old →
         Talks (meaning_by V.Service) v (asked ++ map (λ a. asked_by a) asks.now) conversation.new.driver
         conversation.new.memory.guest talk.new.answers service.new) }
+    ensures counted { OnOk result ((v : V) → (asked : List Asked) →
+        Talks (meaning_by V.Service) v asked conversation.old.driver conversation.old.memory.guest talk.old.answers
+        service.old → talk.new.calls ≡ talk.old.calls ++ length asks.now ∷ []) }
     ensures trusted { IfErr result (λ e. (v : V) → (asked : List Asked) →
         Talks (meaning_by V.Service) v asked conversation.old.driver conversation.old.memory.guest talk.old.answers
         service.old → IsSlow e) }

@@ -10,7 +10,7 @@ ghost use Rattle.vub_open.specs.Asked.{constants_by};
 ghost use Rattle.vub_talk.specs.Ample.{AreFew};
 ghost use Rattle.vub_talk.specs.Faults.{asks_fault, setup_fault, talk_fault};
 ghost use Rattle.vub_talk.specs.Late.{IsLate};
-ghost use Rattle.vub_talk.specs.Talked.{IsAnswered, IsWhole};
+ghost use Rattle.vub_talk.specs.Talked.{lengths_of, IsAnswered, IsWhole};
 ghost use Rattle.vub_talk.specs.Talks.{IsSlow};
 
 use crate::ask::Ask;
@@ -55,6 +55,8 @@ fn talk_with<V: Service>(
     ensures only { IfErr result IsLate }
     ensures answered { IfOk result (λ t. 0 < layout.now.slot →
         IsAnswered (meaning_by V.Service) service.old service.new asks.now t) }
+    ensures counted { IfOk result (λ t. 0 < layout.now.slot →
+        t.calls ≡ lengths_of layout.now asks.now (length t.calls)) }
     ensures slow { IfErr result (λ e. 0 < layout.now.slot → IsSlow e) }
 {
     let parties = 2 + constants.masks.len() as u32;
@@ -98,7 +100,7 @@ fn talk_with<V: Service>(
 ///
 /// The answers are numbered as the asks, one for each, and there is a count of the call for each batch. Where the slot
 /// of the layout is above 0, the k-th answer is the reply of the service after k calls to the bytes and the room of
-/// the k-th ask.
+/// the k-th ask, and the count of each batch is its length.
 ///
 /// # Errors
 /// The first test of [`TalkFault`] that fails, up to `Setup`, and then the service was not asked. Then `NotAtRest`: the
@@ -126,6 +128,8 @@ pub fn converse<D: VhostUserBackendMut, V: Service>(
     ensures whole { IfOk result (IsWhole layout asks.now) }
     ensures answered { IfOk result (λ t. 0 < layout.slot →
         IsAnswered (meaning_by V.Service) service.old service.new asks.now t) }
+    ensures counted { IfOk result (λ t. 0 < layout.slot →
+        t.calls ≡ lengths_of layout asks.now (length t.calls)) }
     ensures slow { IfErr result (λ e. 0 < layout.slot →
         (talk_fault (constants_by D.VhostUserBackendMut D.Bitmap.TRACKS device.now) layout asks.now ≡ Some e)
         ⊎ IsSlow e) }

@@ -1,4 +1,4 @@
-use Rattle.std.proofs.Common.{◌≡◌, ◌+◌, ◌++◌, List, length, map, ℕ, ◌<◌, sym, ap, subst, ◌∙◌, arith}
+use Rattle.std.proofs.Common.{◌≡◌, [], ◌∷◌, ◌+◌, ◌++◌, List, length, map, ℕ, ◌<◌, sym, ap, subst, ◌∙◌, arith}
 use Rattle.vub_mem.specs.Memory.{Guest}
 use Rattle.vub_proto.specs.declared.fixed.FixedDevice.{FixedDevice}
 use Rattle.vub_model.specs.declared.records.Span.{Span}
@@ -11,7 +11,7 @@ use Rattle.vub_driver.specs.Machine.{Asked}
 use Rattle.vub_talk.specs.Asking.{NumbersOn}
 use Rattle.vub_talk.specs.Machine.{constants_in}
 use Rattle.vub_talk.specs.Replies.{asked_by}
-use Rattle.vub_talk.specs.Talking.{state_asked}
+use Rattle.vub_talk.specs.Talking.{calls_of, state_asked}
 use Rattle.vub_talk.specs.Talks.{IsSlow, IsTrusted, Talks}
 use Rattle.vub_talk.specs.declared.fault.TalkFault.{TalkFault}
 use Rattle.vub_talk.proofs.Pushed.{err_by}
@@ -26,11 +26,25 @@ returns-clause-talks g c v asked talks =
     let asks = c.args.asks.now in
     let ends = batch_stands m v asked s memory c.args.talk.now.answers c.args.service.now c.play.new.service c.args.constants.now asks c.in_ok-run.run' c.args.layout.now c.in_ok-setup.setup c.in_ok-device.device
     c.submit_all.new.self.memory.guest c.store_all.new.self.memory.guest c.as_slice.result.now
-    c.requires.layout c.requires.may c.requires.small c.requires.queues c.in_ok-device.ensures c.in_ok-setup.ensures.setup c.in_ok-run.ensures.run c.in_ok-setup.ensures.memory c.as_slice.ensures c.store_all.ensures.guest talks in
+    c.requires.layout c.requires.may c.requires.small c.requires.queues c.requires.exits c.in_ok-device.ensures c.in_ok-setup.ensures.setup c.in_ok-run.ensures.run c.in_ok-setup.ensures.memory c.as_slice.ensures c.store_all.ensures.guest talks in
     let replies = c.in_ok-collect_all.ensures.replies in
     subst (λ x. Talks m v (asked ++ map (λ a. asked_by a) asks) c.collect_all.new.self.driver x.guest c.collect_all.new.answers c.play.new.service) (sym c.collect_all.ensures.memory)
-    (batch_answers m v asked s c.store_all.new.self.driver memory c.store_all.new.self.memory.guest c.args.talk.now.answers c.args.service.now c.play.new.service asks c.collect_all.new.self.driver c.collect_all.new.answers
-    talks ends (c.store_all.ensures.driver ∙ c.in_ok-setup.ensures.state) replies)
+    (batch_answers m v asked s c.store_all.new.self.driver memory c.store_all.new.self.memory.guest c.args.talk.now.answers c.args.service.now c.play.new.service asks (calls_of c.in_ok-run.run'.counts) c.collect_all.new.self.driver c.collect_all.new.answers
+    talks ends (c.store_all.ensures.driver ∙ c.in_ok-setup.ensures.state) replies).0
+
+pub returns-clause-counted : goal.returns-clause-counted
+returns-clause-counted g c v asked talks =
+    let m = meaning_by g.V.Service in
+    let s = c.args.conversation.now.driver in
+    let memory = c.args.conversation.now.memory.guest in
+    let asks = c.args.asks.now in
+    let ends = batch_stands m v asked s memory c.args.talk.now.answers c.args.service.now c.play.new.service c.args.constants.now asks c.in_ok-run.run' c.args.layout.now c.in_ok-setup.setup c.in_ok-device.device
+    c.submit_all.new.self.memory.guest c.store_all.new.self.memory.guest c.as_slice.result.now
+    c.requires.layout c.requires.may c.requires.small c.requires.queues c.requires.exits c.in_ok-device.ensures c.in_ok-setup.ensures.setup c.in_ok-run.ensures.run c.in_ok-setup.ensures.memory c.as_slice.ensures c.store_all.ensures.guest talks in
+    let both = batch_answers m v asked s c.store_all.new.self.driver memory c.store_all.new.self.memory.guest c.args.talk.now.answers c.args.service.now c.play.new.service asks (calls_of c.in_ok-run.run'.counts) c.collect_all.new.self.driver c.collect_all.new.answers
+    talks ends (c.store_all.ensures.driver ∙ c.in_ok-setup.ensures.state) c.in_ok-collect_all.ensures.replies in
+    let count : c.calls_in.result ≡ length asks = c.calls_in.ensures ∙ ap calls_of c.as_slice-2.ensures ∙ both.1 in
+    c.in_ok-push.ensures.ok ∙ ap (λ n. c.args.talk.now.calls ++ n ∷ []) count
 
 pub returns-clause-answers : goal.returns-clause-answers
 returns-clause-answers g c =
@@ -47,10 +61,10 @@ returns-in_err-collect_all-clause-trusted g c =
     let mine : (v : g.row.V.Denot) → (asked : List Asked) → Talks (meaning_by g.V.Service) v asked c.args.conversation.now.driver c.args.conversation.now.memory.guest c.args.talk.now.answers c.args.service.now → IsSlow c.in_err-collect_all.field-0.0 = λ v asked talks.
     let ends = batch_stands m v asked s memory c.args.talk.now.answers c.args.service.now c.play.new.service c.args.constants.now asks c.in_ok-run.run' c.args.layout.now c.in_ok-setup.setup c.in_ok-device.device
     c.submit_all.new.self.memory.guest c.store_all.new.self.memory.guest c.as_slice.result.now
-    c.requires.layout c.requires.may c.requires.small c.requires.queues c.in_ok-device.ensures c.in_ok-setup.ensures.setup c.in_ok-run.ensures.run c.in_ok-setup.ensures.memory c.as_slice.ensures c.store_all.ensures.guest talks in
+    c.requires.layout c.requires.may c.requires.small c.requires.queues c.requires.exits c.in_ok-device.ensures c.in_ok-setup.ensures.setup c.in_ok-run.ensures.run c.in_ok-setup.ensures.memory c.as_slice.ensures c.store_all.ensures.guest talks in
     c.in_err-collect_all.ensures.trusted
     (subst (λ x. IsTrusted x c.store_all.new.self.memory.guest) (sym (c.store_all.ensures.driver ∙ c.in_ok-setup.ensures.state))
-    (trusts m v (asked ++ map (λ a. asked_by a) asks) (record { state = state_asked s asks; answers = c.args.talk.now.answers }) c.play.new.service c.store_all.new.self.memory.guest ends)) in
+    (trusts m v (asked ++ map (λ a. asked_by a) asks) (record { state = state_asked s asks; answers = c.args.talk.now.answers; before = s.submitted }) c.play.new.service c.store_all.new.self.memory.guest (calls_of c.in_ok-run.run'.counts) ends)) in
     let P : TalkFault → Type 0 = λ e. (v : g.row.V.Denot) → (asked : List Asked) → Talks (meaning_by g.V.Service) v asked c.args.conversation.now.driver c.args.conversation.now.memory.guest c.args.talk.now.answers c.args.service.now → IsSlow e in
     err_by c.from_residual-in_err-collect_all.result c.in_err-collect_all.field-0.0 P c.from_residual-in_err-collect_all.ensures.1 mine
 

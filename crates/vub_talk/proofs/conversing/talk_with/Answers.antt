@@ -1,4 +1,4 @@
-use Rattle.std.proofs.Common.{rules, ◌≡◌, ◌⊎◌, inl, inr, ℕ, ◌+◌, ◌-◌, ◌*◌, ◌^◌, ◌<◌, ◌≤◌, List, [], ◌∷◌, ◌++◌, false, length, map, take, drop, None, sym, ap, ap₂, subst, ◌∙◌, arith}
+use Rattle.std.proofs.Common.{rules, ◌≡◌, ◌⊎◌, inl, inr, ℕ, ◌+◌, ◌-◌, ◌*◌, ◌^◌, ◌<◌, ◌≤◌, List, [], ◌∷◌, ◌++◌, false, length, map, take, drop, min, None, sym, ap, ap₂, subst, ◌∙◌, arith}
 use Rattle.std.specs.List.{range_with_len}
 use Rattle.vub_mem.specs.Memory.{Guest}
 use Rattle.vub_mem.specs.Place.{content_of}
@@ -21,12 +21,12 @@ use Rattle.vub_talk.specs.Replies.{asked_by}
 use Rattle.vub_talk.specs.Talks.{IsSlow, Talks}
 use Rattle.vub_talk.specs.declared.fault.TalkFault.{TalkFault}
 use Rattle.vub_talk.proofs.Pushed.{err_by}
-use Rattle.vub_talk.proofs.Started.{asked_more, talks_none}
+use Rattle.vub_talk.proofs.Started.{asked_more, least, lengths_more, talks_none}
 use Rattle.vub_talk.proofs.Asked.{range-more}
 use Rattle.vub_talk.proofs.Batching.{size_taken, aligned_taken, small_asks, lies_asks, covers_layout, small-drop, small-take, part-length, length-zeros}
 use Rattle.vub_talk.proofs.Refusing.{fit_taken}
 use Rattle.vub_talk.proofs.Submitted.{carried, ready-at}
-use Rattle.vub_talk.proofs.Valid.{few_masks, some_queues, valid}
+use Rattle.vub_talk.proofs.Valid.{few_masks, no_exits, some_queues, valid}
 use Rattle.vub_talk.proofs.Blank.{blank_ready}
 use Rattle.vub_talk.proofs.conversing.talk_with.Goals as goal
 
@@ -59,6 +59,7 @@ loop-done-init g c =
           (subst (λ x. T (new_state c.args.layout.now false) x c.new.result) (sym c.in_ok-memory.ensures)
           (subst (T (new_state c.args.layout.now false) blank) (sym c.new.ensures)
           (talks_none m v c.args.layout.now some c.requires.layout (lies_asks c.args.layout.now c.args.asks.now c.requires.asks))));
+      counted = λ some. c.new-2.ensures;
       reached = omega arith;
       close = omega (arith, some);
       whole = λ more. omega arith;
@@ -164,6 +165,12 @@ loop-done-preserved g c =
           let T : List Asked → Type 0 = λ q. Talks (meaning_by g.V.Service) c.args.service.now q c.talk_batch.new.conversation.driver c.talk_batch.new.conversation.memory.guest c.talk_batch.new.talk.answers c.talk_batch.new.service in
           let one : i + k - i ≡ k = omega arith in
           subst T (ap (λ n. map (λ a. asked_by a) (take i asks) ++ map (λ a. asked_by a) (take n (drop i asks))) one ∙ asked_more asks i k) new;
+      counted = λ some.
+          let count : length part ≡ min (half_of l) (length asks - c.loop-done.batch * half_of l) =
+          long ∙ least k (half_of l) (length asks - c.loop-done.batch * half_of l) most (omega (arith, left, here))
+          (elim cases as (λ _. (k ≡ half_of l) ⊎ (k ≡ length asks - c.loop-done.batch * half_of l)) [ inl full ↦ inl full | inr last ↦ inr (last ∙ ap (λ n. length asks - n) here) ]) in
+          its.counted c.args.service.now (map (λ a. asked_by a) (take i asks)) (so.talks some)
+          ∙ ap₂ (λ xs n. xs ++ n ∷ []) (so.counted some) count ∙ sym (lengths_more l asks c.loop-done.batch);
       reached = omega (arith, here, most);
       close = omega (arith, here, more);
       whole = λ rest. elim cases as (λ _. i + k ≡ (c.loop-done.batch + 1) * half_of l) [ inl full ↦ omega (arith, full, here) | inr last ↦ absurd (omega (arith, last, rest, below)) ];
@@ -175,3 +182,6 @@ returns-in_err-talk_batch-clause-slow g c =
     let P : TalkFault → Type 0 = λ e. 0 < c.args.layout.now.slot → IsSlow e in
     err_by c.from_residual-in_err-talk_batch.result c.in_err-talk_batch.field-0.0 P c.from_residual-in_err-talk_batch.ensures.1
     (λ some. c.in_err-talk_batch.ensures.trusted c.args.service.now (map (λ a. asked_by a) (take c.loop-done.done c.args.asks.now)) (so.talks some))
+
+pub talk_batch-requires-clause-exits : goal.talk_batch-requires-clause-exits
+talk_batch-requires-clause-exits g c = no_exits c.args.constants.now c.args.layout.now c.requires.device

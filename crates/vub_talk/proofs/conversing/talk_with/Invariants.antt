@@ -5,6 +5,7 @@ use Rattle.vub_driver.specs.Places.{half_of}
 use Rattle.vub_driver.specs.declared.done.Done.{Done}
 use Rattle.vub_core.specs.Meanings.{meaning_by}
 use Rattle.vub_talk.specs.Replies.{asked_by}
+use Rattle.vub_talk.specs.Talked.{lengths_of}
 use Rattle.vub_talk.specs.Talks.{Talks}
 use Rattle.vub_talk.specs.Asking.{region}
 use Rattle.vub_talk.specs.Ready.{IsReady}
@@ -24,6 +25,7 @@ invariant-loop-done g l =
       calls : length l.talk.calls ≡ l.batch;
       within : l.done ≤ length l.asks;
       talks : 0 < l.layout.slot → Talks (meaning_by g.V.Service) l.initial.service (map (λ a. asked_by a) (take l.done l.asks)) l.conversation.driver l.conversation.memory.guest l.talk.answers l.service;
+      counted : 0 < l.layout.slot → l.talk.calls ≡ lengths_of l.layout l.asks l.batch;
       reached : l.done ≤ l.batch * half_of l.layout;
       close : l.batch * half_of l.layout < l.done + half_of l.layout;
       whole : l.done < length l.asks → l.done ≡ l.batch * half_of l.layout;
