@@ -1,5 +1,5 @@
 -- Where a party still had a step, there were too few rounds.
-use Rattle.std.proofs.Common.{◌≡◌, ℕ, ◌+◌, ◌-◌, ◌*◌, ◌^◌, ◌<◌, ◌≤◌, ◌⊎◌, inl, inr, Bool, true, false, true≢false, not, cond, Option, Some, None, min, List, length, refl, sym, ap, subst, ◌∙◌, arith}
+use Rattle.std.proofs.Common.{◌≡◌, ℕ, ◌+◌, ◌-◌, ◌*◌, ◌^◌, ◌<◌, ◌≤◌, inl, inr, Bool, true, false, true≢false, not, cond, Option, Some, None, min, List, length, refl, sym, ap, subst, ◌∙◌, arith}
 use Rattle.std.specs.Prelude.{option_map}
 use Rattle.std.proofs.lemmas.Bool.{cases_lt}
 use Rattle.vub_driver.specs.Places.{half_of}
@@ -14,7 +14,7 @@ use Rattle.vub_model.specs.DeviceCalls.{Telling}
 use Rattle.vub_model.specs.Service.{Meaning}
 use Rattle.vub_core.specs.DeviceRun.{DeviceState}
 use Rattle.vub_core.specs.Outcome.{IsPlayed}
-use Rattle.vub_talk.specs.Ample.{AreFew, IsBatch, IsFew, IsNoRest, batch_len}
+use Rattle.vub_talk.specs.Ample.{AreFew, IsBatch, IsFew, IsNoRest}
 use Rattle.vub_talk.specs.Batches.{schedule_of}
 use Rattle.vub_talk.specs.Faults.{device_fault, has_worker, setup_fault}
 use Rattle.vub_talk.specs.Late.{refusal_of}

@@ -104,8 +104,9 @@ fn talk_with<V: Service>(
 ///
 /// # Errors
 /// The first test of [`TalkFault`] that fails, up to `Setup`, and then the service was not asked. Then `NotAtRest`: the
-/// rounds of this batch were too few; with one worker fewer than thirteen for each of its asks, and 26. What a driver may find wrong in a used ring never comes, where the slot is above
-/// 0. Want of memory may come at any place.
+/// rounds of this batch were too few; with one worker they were fewer than thirteen for each of its asks, and 26. What a
+/// driver may find wrong in a used ring never comes, where the slot is above 0. Want of memory may come at any place; it
+/// stands too for an ask that was not used though the run is at rest, of which it is not proved that there is none.
 #[tactic(auto, using(crate::proofs::Batching::device_none))]
 pub fn converse<D: VhostUserBackendMut, V: Service>(
     alloc: Global,

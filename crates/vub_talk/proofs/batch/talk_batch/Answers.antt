@@ -9,6 +9,7 @@ use Rattle.vub_talk.specs.Ready.{AreOff, IsReady}
 use Rattle.vub_core.specs.Meanings.{meaning_by}
 use Rattle.vub_driver.specs.Machine.{Asked}
 use Rattle.vub_talk.specs.Asking.{NumbersOn}
+use Rattle.vub_talk.specs.Machine.{constants_in}
 use Rattle.vub_talk.specs.Replies.{asked_by}
 use Rattle.vub_talk.specs.Talking.{calls_of, state_asked}
 use Rattle.vub_talk.specs.Talks.{IsSlow, IsTrusted, Talks}
