@@ -16,7 +16,6 @@ use Rattle.vub_driver.specs.Machine.{Asked, World as Dialog}
 use Rattle.vub_driver.specs.Places.{half_of}
 use Rattle.vub_driver.specs.State.{State}
 use Rattle.vub_driver.specs.declared.done.Done.{Done}
-use Rattle.vub_driver.proofs.Collecting.{collects}
 use Rattle.vub_driver.proofs.Kept.{Keeps, taken_by, taken_low, length-numbered}
 use Rattle.vub_talk.specs.declared.ask.Ask.{Ask}
 use Rattle.vub_talk.specs.Asking.{AreSmall, MaySubmit, region}
@@ -33,7 +32,7 @@ use Rattle.vub_driver.specs.declared.layout.Layout.{Layout}
 use Rattle.vub_core.specs.DeviceRun.{DeviceState}
 use Rattle.vub_core.specs.Outcome.{IsPlayed}
 use Rattle.vub_model.specs.DeviceCalls.{Telling}
-use Rattle.vub_talk.specs.Talking.{HasRun, calls_of}
+use Rattle.vub_talk.specs.Talking.{HasRun, calls_of, Collects, guest_asked, spans_stored, state_asked}
 use Rattle.std.proofs.lemmas.Bool.{ltb-false}
 use Rattle.vub_event.specs.HostTable.{HostTable}
 use Rattle.vub_model.specs.declared.records.Count.{Count}
@@ -44,7 +43,7 @@ use Rattle.vub_talk.proofs.Beginning.{IsBetween, begins, untouched}
 use Rattle.vub_talk.proofs.Ending.{Ends, ends, guest_rests, collected_on}
 use Rattle.vub_talk.proofs.Opened.{asks_made, asks_flat}
 use Rattle.vub_talk.proofs.Playing.{run_gathers}
-use Rattle.vub_talk.proofs.Untouched.{length-acts_on, run_untouched}
+use Rattle.vub_talk.proofs.Untouched.{length-acts_on, run_untouched, acts_on}
 
 -- the count of the call, as a run hands it back
 calls_by : (first second : ℕ) (a b : Bool) → nat_lt 0 second ≡ b →

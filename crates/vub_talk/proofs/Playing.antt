@@ -40,7 +40,7 @@ use Rattle.vub_talk.proofs.Gathering.{Gathers, Goal, Hand, Stage, actions_from}
 use Rattle.vub_talk.proofs.Gathering.Stage.{between, requested, chained, slotted, ended}
 use Rattle.vub_talk.proofs.Storing.{store_writes}
 use Rattle.vub_event.specs.HostTable.{event_at}
-use Rattle.vub_model.specs.Shared.{raised_option}
+use Rattle.vub_model.specs.Shared.{raised_option, Shared}
 use Rattle.vub_model.specs.Wiring.{opened_at}
 use Rattle.vub_talk.proofs.Telling.{tells_same, tells_other, same_rings}
 use Rattle.vub_talk.proofs.Turning.{small_parts, space_left}

@@ -42,12 +42,12 @@ use Rattle.vub_talk.specs.Asking.{region}
 use Rattle.vub_talk.specs.Replies.{asked_by, replies_to, value_after}
 use Rattle.vub_talk.proofs.Ahead.{ahead_taken, ahead_put}
 use Rattle.vub_talk.proofs.Gathering.{Gathers, Goal, Hand, asked_in}
-use Rattle.std.proofs.lemmas.List.{length_push}
+use Rattle.std.proofs.lemmas.List.{length_push, get_or-set_same, get_or-set_other, length-set}
 use Rattle.vub_event.specs.HostTable.{event_at, members_at}
 use Rattle.vub_event.specs.InterestList.{member_of}
-use Rattle.vub_model.specs.Shared.{read_option}
-use Rattle.vub_model.specs.Work.{has_token, is_object}
-use Rattle.vub_model.proofs.Counting.{field-kept}
+use Rattle.vub_model.specs.Shared.{read_option, Shared, ring_at, with_ring, raised_or_none, pending_at, swept, counter_read}
+use Rattle.vub_model.specs.Work.{has_token, is_object, Local, MayWork, after_work, after_serve, after_event, after_take, after_took, after_put, after_said, answer_put, put_said, looked, may_take, entry_of, serving, queues_numbered, published, stopped, called, used}
+use Rattle.vub_model.proofs.Counting.{field-kept, ring-own, ring-other}
 use Rattle.vub_talk.proofs.Telling.{Tells, tells_same, tells_other, tells_raised, same_rings, no_token}
 use Rattle.vub_talk.proofs.Turning.{put_fine, small_parts, space_left, stage_kept, value_more, replies_more}
 use Rattle.vub_core.specs.Replies.{FitsItsRoom}

@@ -1,4 +1,4 @@
-use Rattle.std.proofs.Common.{rules, ◌≡◌, ◌+◌, [], ◌∷◌, ◌++◌, List, length, map, IfErr, ℕ, sym, ap, subst, ◌∙◌, arith, ◌<◌}
+use Rattle.std.proofs.Common.{◌≡◌, ◌+◌, [], ◌∷◌, ◌++◌, List, length, map, ℕ, sym, ap, subst, ◌∙◌, arith, ◌<◌}
 use Rattle.vub_mem.specs.Memory.{Guest}
 use Rattle.vub_proto.specs.declared.fixed.FixedDevice.{FixedDevice}
 use Rattle.vub_model.specs.declared.records.Span.{Span}
