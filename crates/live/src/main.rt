@@ -9,7 +9,7 @@ use std::sync::Wait;
 use std::thread::Threads;
 use std::{env, io};
 use vub_jobs::start_daemon_job;
-use vub_live::{Lived, LiveJob, complaint_of, run_live};
+use vub_live::{LiveJob, Lived, complaint_of, run_live};
 use vub_stream::{Sink, WriteSink};
 use vub_threads::CallSpawner;
 
